@@ -17,7 +17,7 @@ mod steps;
 mod text;
 mod units;
 
-pub use builtins::BUILTIN_NAMES;
+pub use builtins::{BUILTIN_NAMES, is_builtin_name};
 pub use cause::Cause;
 pub use command::{Command, NewCell};
 pub use label::{Label, Part, PathId};
