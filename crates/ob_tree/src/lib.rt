@@ -1,0 +1,7 @@
+//! Trees of cells: their types, copies, depth, canonical text and names.
+#![tactic(auto)]
+
+pub use ob_tree_types::{
+    AssignOp, Boxed, CatchPart, CellTree, ChangeOp, Decl, DeclValue, Expr, FnBody, ForHead,
+    Function, ImportSpec, ImportTree, LogicOp, PropNode, SpecForm, Stmt, UpdateOp,
+};
