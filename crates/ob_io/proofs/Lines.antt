@@ -118,9 +118,9 @@ line_len-prefix xs = prefix_len_is in_line (take (line_len xs) xs) (line_len xs)
 
 -- a line that has come is within the limits
 pub within_case : (L M : ℕ) (line chunk part : List ℕ) (count : ℕ) → IsPartial L M line → count ≡ line_len chunk → length line + count ≤ L → length line + count < M
-    → part ≡ line ++ take count chunk → (line_len part ≡ length part) × (length part ≤ L) × (length part + 1 ≤ M)
+    → part ≡ line ++ take count chunk → (line_len part ≡ length part) × (length part ≤ L) × (1 ≤ length part + 1) × (length part + 1 ≤ M)
 within_case L M line chunk part count p same short within e =
     let front : take count chunk ≡ take (line_len chunk) chunk = ap (λ n. take n chunk) same in
     let size : length part ≡ length line + count = ap length e ∙ length-append line (take count chunk) ∙ ap (λ n. length line + n) (ap length front ∙ length-prefix_len in_line chunk ∙ sym same) in
     let len : line_len part ≡ length line + count = ap line_len e ∙ line_len-part line (take count chunk) p.no_feed ∙ ap (λ n. length line + n) (ap line_len front ∙ line_len-prefix chunk ∙ sym same) in
-    (len ∙ sym size, omega (arith, size), omega (arith, size))
+    (len ∙ sym size, omega (arith, size), omega arith, omega (arith, size))

@@ -51,10 +51,11 @@ abbrev pub IsMore : ℕ → ℕ → List ℕ → List ℕ → List ℕ → Optio
 IsMore line_limit input_left kept line buffer None = (line ≡ kept) × (buffer ≡ []) × IsPartial line_limit input_left line
 IsMore line_limit input_left kept line buffer (Some answer) = ⊤
 
--- What holds over any source: a line is within the limits, with its line feed within the input's;
--- after a fault only a part of a line is kept.
+-- What holds over any source: a line is within the limits, with its line feed within the input's,
+-- and hands out at least a byte; after a fault only a part of a line is kept.
 abbrev pub IsWithin : ℕ → ℕ → List ℕ → Bool → NextLine → Type 0
-IsWithin line_limit input_left kept ended (Line line) = (line_len line ≡ length line) × (length line ≤ line_limit) × (length line + feed_len ended ≤ input_left)
+IsWithin line_limit input_left kept ended (Line line) = (line_len line ≡ length line) × (length line ≤ line_limit)
+    × (1 ≤ length line + feed_len ended) × (length line + feed_len ended ≤ input_left)
 IsWithin line_limit input_left kept ended End = ⊤
 IsWithin line_limit input_left kept ended LineTooLong = ⊤
 IsWithin line_limit input_left kept ended InputTooLong = ⊤

@@ -3,6 +3,8 @@ use crate::{
     WriteFault, write_all,
 };
 use ob_base::List;
+use std::io;
+use std::io::{Read, Write};
 use std::test::Fail;
 
 // Sizes of 2 and 9 and a buffer of 4, and the second call fails.
@@ -73,5 +75,51 @@ fn a_reader_and_a_writer_serve(rt: HostRuntime) -> Result<(), Fail> {
     assert!(rt; source.read(&mut buf) == ReadAnswer::End);
     let mut sink = StdSink::new(Vec::<u8>::new(alloc));
     assert!(rt; write_all(&mut sink, b"abc") == Ok(()));
+    Ok(())
+}
+
+// Its first read fails, and each later one gives a byte.
+#[derive(Drop)]
+struct FailsOnce {
+    failed: bool,
+}
+
+impl Read for FailsOnce {
+    fn read(&mut self, buf: &mut [u8]) -> io::Result<usize> {
+        if !self.failed {
+            self.failed = true;
+            return Err(io::ErrorKind::Other.into());
+        }
+        if buf.is_empty() {
+            return Ok(0);
+        }
+        buf[0] = b'a';
+        Ok(1)
+    }
+}
+
+// It takes nothing.
+#[derive(Drop)]
+struct Full;
+
+impl Write for Full {
+    fn write(&mut self, _bytes: &[u8]) -> io::Result<usize> {
+        Ok(0)
+    }
+
+    fn flush(&mut self) -> io::Result<()> {
+        Ok(())
+    }
+}
+
+#[test]
+fn an_error_of_the_system_is_a_fault(rt: HostRuntime) -> Result<(), Fail> {
+    let mut source = StdSource::new(FailsOnce { failed: false });
+    let mut buf = [0u8; 2];
+    assert!(rt; source.read(&mut buf) == ReadAnswer::Failed);
+    assert!(rt; source.read(&mut buf) == ReadAnswer::Got(1));
+    let mut sink = StdSink::new(Full);
+    assert!(rt; sink.write(b"a") == WriteAnswer::Failed);
+    assert!(rt; write_all(&mut sink, b"ab") == Err(WriteFault));
     Ok(())
 }
