@@ -1,1 +1,4 @@
+pub mod Feeds
 pub mod Known
+pub mod Lines
+pub mod Pieces

@@ -1,5 +1,5 @@
 -- What a read of a source and a write to a sink do.
-use Rattle.std.specs.Prelude.{◌≤◌, ℕ, ◌+◌, ◌-◌, ◌^◌, min, List, take, ⊤}
+use Rattle.std.specs.Prelude.{◌≡◌, ◌≤◌, ℕ, ◌+◌, ◌-◌, ◌^◌, min, List, [], ◌<◌, length, take, ⊤}
 use Rattle.std.specs.declared.option.Option.{Option}
 use Rattle.std.specs.Io.KnownBytes.{Consumes, Keeps, Appends, IsAtEnd}
 use Rattle.ob_io.specs.declared.outside.ReadAnswer.{ReadAnswer}
@@ -37,6 +37,12 @@ abbrev pub Takes : Option (List ℕ) → Option (List ℕ) → ReadAnswer → Li
 Takes old new (read.Got n) buf = Consumes old new (take n buf)
 Takes old new read.End buf = IsAtEnd old × Keeps old new
 Takes old new read.Failed buf = Keeps old new
+
+-- what stands in a buffer after a read that began at its front
+abbrev pub Fills : Option (List ℕ) → Option (List ℕ) → ReadAnswer → List ℕ → Type 0
+Fills old new (read.Got n) buf = (0 < length buf) × Consumes old new buf
+Fills old new read.End buf = (buf ≡ []) × IsAtEnd old × Keeps old new
+Fills old new read.Failed buf = (buf ≡ []) × Keeps old new
 
 -- a write takes at least one byte, and no more than it was given
 abbrev pub IsTaken : WriteAnswer → ℕ → Type 0
