@@ -1,0 +1,6 @@
+pub mod Bundles
+pub mod Commands
+pub mod Fields
+pub mod Gives
+pub mod Ids
+pub mod Json
