@@ -3,13 +3,14 @@ use Rattle.std.specs.Prelude.{ℕ, List, codes, bytes_eq, Option, Some, None, Re
 use Rattle.serde_json.specs.Data.{Data}
 use Rattle.serde_json.specs.Find.{as_str, as_array}
 use Rattle.ob_base.specs.declared.cause.Cause.{Cause}
-use Rattle.ob_base.specs.declared.cause.Cause.TheVariants.{NotJson, UnknownCommand, NotBuilt}
+use Rattle.ob_base.specs.declared.cause.Cause.TheVariants.{NotJson, UnknownCommand}
 use Rattle.ob_base.specs.declared.command.Command.{Command}
 use Rattle.ob_base.specs.declared.command.Command.TheVariants as commands
 use Rattle.ob_base.specs.declared.command.NewCell.{NewCell}
 use Rattle.ob_script.specs.declared.word.Word.{Word}
 use Rattle.ob_script.specs.declared.word.Word.TheVariants as words
 use Rattle.ob_script.specs.Fields.{◌>>=◌, field, entries, notebook_id, cell_id, place_field}
+use Rattle.ob_script.specs.Inputs.{value_field}
 use Rattle.ob_script.specs.Json.{json_of}
 
 -- an entry of `cells`
@@ -48,7 +49,8 @@ fields words.Delete d =
 fields words.Input d =
     field notebook_id (codes "notebook") d >>= λ notebook.
     field cell_id (codes "cell") d >>= λ cell.
-    Err NotBuilt
+    value_field d >>= λ value.
+    Ok (commands.Input notebook cell value)
 fields words.Observe d =
     field notebook_id (codes "notebook") d >>= λ notebook.
     field cell_id (codes "cell") d >>= λ cell.

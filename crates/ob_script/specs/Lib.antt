@@ -3,4 +3,5 @@ pub mod Commands
 pub mod Fields
 pub mod Gives
 pub mod Ids
+pub mod Inputs
 pub mod Json

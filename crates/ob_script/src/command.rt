@@ -7,6 +7,7 @@ ghost use Rattle.ob_script.specs.Gives.{Gives};
 use crate::ReadError;
 use crate::field::{bad_shape, cell_field, items_field, notebook_field, place_field, text_field};
 use crate::json::{JsonFault, read_json, text_at};
+use crate::plain::value_field;
 use crate::word::{Word, word_of};
 use ob_base::{Cause, Command, List, NewCell};
 use serde_json::Value;
@@ -84,9 +85,14 @@ fn fields(alloc: Global, word: Word, value: &Value) -> Result<Command, ReadError
             Ok(Command::Delete { notebook, cell })
         }
         Word::Input => {
-            let _notebook = notebook_field(alloc, value, "notebook")?;
-            let _cell = cell_field(alloc, value, "cell")?;
-            Err(ReadError::Refused(Cause::NotBuilt))
+            let notebook = notebook_field(alloc, value, "notebook")?;
+            let cell = cell_field(alloc, value, "cell")?;
+            let value = value_field(alloc, value)?;
+            Ok(Command::Input {
+                notebook,
+                cell,
+                value,
+            })
         }
         Word::Observe => {
             let notebook = notebook_field(alloc, value, "notebook")?;

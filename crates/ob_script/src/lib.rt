@@ -6,6 +6,8 @@ mod command;
 mod field;
 mod id;
 mod json;
+mod limits;
+mod plain;
 mod read_error;
 mod word;
 
