@@ -1,0 +1,104 @@
+ghost use Rattle.std.specs.Prelude.{◌≡◌, ◌++◌, IfOk, OnOk};
+ghost use Rattle.std.specs.Char.Escape.{encode_utf16};
+ghost use Rattle.serde_json.specs.View.{view, number_view, items_view, members_view};
+ghost use Rattle.ob_script.specs.Gives.{Gives};
+ghost use Rattle.ob_script.specs.Inputs.{utf16, integer_of, plain_of, plains_of, props_of, value_field};
+
+use crate::ReadError;
+use crate::field::bad_shape;
+use crate::limits::is_within_limits;
+use ob_base::{Cause, List, MAX_INTEGER, NoMemory, Plain, PlainProp, Units};
+use serde_json::{Map, Number, Value};
+use std::alloc::Global;
+
+fn push_char(units: &mut Units, c: char) -> Result<(), NoMemory>
+    ensures { OnOk result (units.new ≡ units.old ++ encode_utf16 c) }
+{
+    let mut pair = [0u16; 2];
+    for unit in c.encode_utf16(&mut pair).iter() {
+        units.push(*unit)?;
+    }
+    Ok(())
+}
+
+/// The UTF-16 code units of a text.
+fn units_of(alloc: Global, text: &str) -> Result<Units, NoMemory>
+    ensures { IfOk result (λ units. units ≡ utf16 text.now) }
+{
+    let mut units = Units::new(alloc);
+    for c in text.chars() {
+        push_char(&mut units, c)?;
+    }
+    Ok(units)
+}
+
+#[tactic(auto, unfolding(crate::specs::Inputs::integer_of))]
+fn integer_of(number: &Number) -> Result<Plain, ReadError>
+    ensures { Gives result (integer_of (number_view number.now)) }
+{
+    match number.as_i64() {
+        Some(n) => {
+            if n >= -MAX_INTEGER && n <= MAX_INTEGER {
+                Ok(Plain::Int(n))
+            } else {
+                Err(ReadError::Refused(Cause::NumberRange))
+            }
+        }
+        None => Err(ReadError::Refused(Cause::NumberRange)),
+    }
+}
+
+/// The data of a value, whatever its size.
+#[cycle(plain)]
+fn plain_of(alloc: Global, value: &Value) -> Result<Plain, ReadError>
+    ensures { Gives result (plain_of (view value.now)) }
+{
+    match value {
+        Value::Null => Ok(Plain::Null),
+        Value::Bool(truth) => Ok(Plain::Bool(*truth)),
+        Value::Number(number) => integer_of(number),
+        Value::String(text) => Ok(Plain::Text(units_of(alloc, text.as_str())?)),
+        Value::Array(items) => Ok(Plain::Array(plains_of(alloc, items)?)),
+        Value::Object(members) => Ok(Plain::Object(props_of(alloc, members)?)),
+    }
+}
+
+#[cycle(plain)]
+fn plains_of(alloc: Global, values: &Vec<Value>) -> Result<List<Plain>, ReadError>
+    ensures { Gives result (plains_of (items_view values.now.items)) }
+{
+    let mut items = List::new(alloc);
+    for value in values {
+        items.push(plain_of(alloc, value)?)?;
+    }
+    Ok(items)
+}
+
+#[cycle(plain)]
+fn props_of(alloc: Global, members: &Map<String, Value>) -> Result<List<PlainProp>, ReadError>
+    ensures { Gives result (props_of (members_view members.now.entries)) }
+{
+    let mut props = List::new(alloc);
+    for (key, member) in members.iter() {
+        let value = plain_of(alloc, member)?;
+        let key = units_of(alloc, key.as_str())?;
+        props.push(PlainProp { key, value })?;
+    }
+    Ok(props)
+}
+
+/// The field `value`: plain data that is small enough.
+#[tactic(auto, unfolding(crate::specs::Inputs::within_limits, crate::specs::Inputs::value_field))]
+pub fn value_field(alloc: Global, value: &Value) -> Result<Plain, ReadError>
+    ensures { Gives result (value_field (view value.now)) }
+{
+    let Some(found) = value.get("value") else {
+        return bad_shape(alloc, "value");
+    };
+    let plain = plain_of(alloc, found)?;
+    if is_within_limits(&plain) {
+        Ok(plain)
+    } else {
+        bad_shape(alloc, "value")
+    }
+}
