@@ -1,0 +1,75 @@
+-- The lines of a session, one after another.
+use Rattle.std.proofs.Common.{◌≡◌, ℕ, List, [], ◌∷◌, None, Some, refl, sym, ap, ◌∙◌, subst}
+use Rattle.std.specs.Prelude.{IfSome}
+use Rattle.std.specs.declared.option.Option.{Option}
+use Rattle.ob_io.specs.Lines.{LineState}
+use Rattle.ob_session.specs.declared.exit.Exit.{Exit}
+use Rattle.ob_session.specs.declared.exit.Exit.TheVariants as exit
+use Rattle.ob_session.specs.declared.reply.Reply.{Reply}
+use Rattle.ob_session.specs.declared.world.World.{World}
+use Rattle.ob_session.specs.Answer.{answer, replies}
+use Rattle.ob_session.specs.Ends.{AllEnds}
+use Rattle.ob_session.specs.Reading.{IsOver}
+use Rattle.ob_session.specs.Step.{IsAnswered, GoesOn}
+use Rattle.ob_session.specs.Stops.{IsEnd}
+use Rattle.ob_session.specs.Trace.{lines, end, exit_of}
+use Rattle.ob_session.proofs.Coming.{lines_next}
+use Rattle.ob_session.proofs.Ending.{IsFollowed, SameEnd, AllEnds-move, AllEnds-after}
+
+-- how the session ends over bytes to come, in a world
+abbrev pub EndsFrom : World → ℕ → Option (List ℕ) → Option (List ℕ) → Option (List ℕ) → Option (List ℕ) → Exit → Type 0
+EndsFrom w left b rest held holds e = AllEnds b rest (λ b. replies w (lines left b)) (λ b. exit_of (end left b)) held holds e
+
+-- however it ends from now on, it ends so from the start
+abbrev pub Reduces : World → World → ℕ → ℕ → Option (List ℕ) → Option (List ℕ) → List ℕ → List ℕ → Type 0
+Reduces w new left after held now i b = (rest holds : Option (List ℕ)) (e : Exit) → EndsFrom new after (Some b) rest now holds e → EndsFrom w left (Some i) rest held holds e
+
+pub follows_itself : (w : World) (left : ℕ) (held b : Option (List ℕ)) → IsFollowed b b (Reduces w w left left held held)
+follows_itself w left held None = tt
+follows_itself w left held (Some b) = λ rest holds e h. h
+
+same_behind : (left after : ℕ) (b b' : List ℕ) (w new : World) (held now : Option (List ℕ)) (a : IsAnswered left after b b' w new held now)
+    → (replies w (lines left b) ≡ (answer w a.line).0 ∷ replies new (lines after b')) × (exit_of (end left b) ≡ exit_of (end after b'))
+same_behind left after b b' w new held now a =
+    let next = lines_next left b a.line a.comes in
+    (rw (next.0, a.world, a.rest_is, a.left_is) refl, rw (a.rest_is, a.left_is) (ap exit_of next.1))
+
+one_more : (left after : ℕ) (b b' : List ℕ) (w new : World) (held now : Option (List ℕ)) → IsAnswered left after b b' w new held now → Reduces w new left after held now b b'
+one_more left after b b' w new held now a = λ rest holds e h.
+    AllEnds-move (λ b. replies w (lines left b)) (λ b. (answer w a.line).0 ∷ replies new (lines after b)) (λ b. exit_of (end left b)) (λ b. exit_of (end after b)) rest held holds (Some b) (Some b') e
+    (same_behind left after b b' w new held now a)
+    (AllEnds-after (λ b. replies new (lines after b)) (λ b. exit_of (end after b)) rest held now holds (answer w a.line).0 a.appended (Some b') e h)
+
+-- one line further
+pub follows_on : (w0 w new : World) (left0 left after : ℕ) (held now then : Option (List ℕ)) (input b rest : Option (List ℕ))
+    → IsFollowed input b (Reduces w0 w left0 left held now) → GoesOn left after b rest w new now then → IsFollowed input rest (Reduces w0 new left0 after held then)
+follows_on w0 w new left0 left after held now then None b rest f a = tt
+follows_on w0 w new left0 left after held now then (Some i) None rest f a = absurd f
+follows_on w0 w new left0 left after held now then (Some i) (Some b) None f a = absurd a
+follows_on w0 w new left0 left after held now then (Some i) (Some b) (Some b') f a = λ rest holds e h. f rest holds e (one_more left after b b' w new now then a rest holds e h)
+
+pub over_on : (p : List ℕ → List ℕ → Type 0) (input b rest : Option (List ℕ)) (r : LineState) → IsFollowed input b p → IfSome b (λ _. IsOver r rest) → IfSome input (λ _. IsOver r rest)
+over_on p None b rest r f o = tt
+over_on p (Some i) None rest r f o = absurd f
+over_on p (Some i) (Some b) rest r f o = o
+
+unknown_ends : (w : World) (left : ℕ) (rest held holds : Option (List ℕ)) (e : Exit) → IsEnd e → EndsFrom w left None rest held holds e
+unknown_ends w left rest held holds exit.Done h = (tt, tt)
+unknown_ends w left rest held holds exit.LineTooLong h = tt
+unknown_ends w left rest held holds exit.InputTooLong h = tt
+unknown_ends w left rest held holds exit.ReadFault h = tt
+unknown_ends w left rest held holds exit.WriteFault h = tt
+unknown_ends w left rest held holds exit.NoMemory h = tt
+unknown_ends w left rest held holds exit.Usage h = absurd h
+unknown_ends w left rest held holds exit.BadBundle h = absurd h
+
+-- the end
+pub loop_ends : (w0 w : World) (left0 left : ℕ) (held now holds input b rest : Option (List ℕ)) (r : LineState) (e : Exit) → IsEnd e → IsFollowed input b (Reduces w0 w left0 left held now) → IfSome input (λ _. IsOver r b)
+    → (IsOver r b → EndsFrom w left b rest now holds e) → EndsFrom w0 left0 input rest held holds e
+loop_ends w0 w left0 left held now holds None b rest r e c f o h = unknown_ends w0 left0 rest held holds e c
+loop_ends w0 w left0 left held now holds (Some i) None rest r e c f o h = absurd f
+loop_ends w0 w left0 left held now holds (Some i) (Some b) rest r e c f o h = f rest holds e (h o)
+
+pub known_over : (input : Option (List ℕ)) (r : LineState) → IsOver r input → IfSome input (λ _. IsOver r input)
+known_over None r o = tt
+known_over (Some i) r o = o

@@ -1,0 +1,16 @@
+pub mod Answer
+pub mod Ends
+pub mod Gives
+pub mod Inputs
+pub mod Live
+pub mod Names
+pub mod Reading
+pub mod Refusals
+pub mod Report
+pub mod Show
+pub mod Sound
+pub mod Step
+pub mod Stops
+pub mod Trace
+pub mod Value
+pub mod World

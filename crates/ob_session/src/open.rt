@@ -1,0 +1,184 @@
+ghost use Rattle.std.specs.Prelude.{◌≡◌, ◌<◌, [], length, map, IfOk, IfSome, Some, option_map};
+ghost use Rattle.ob_session.specs.Inputs.{IsBuiltUp};
+ghost use Rattle.std.specs.List.{list_any, position_from};
+ghost use Rattle.ob_session.specs.Gives.{Gives};
+ghost use Rattle.ob_session.specs.World.{has_id, has_name, place_of_name, resolved, cell_behind, cell_from, cells_from, new_world, world_of_notebook, world_of};
+ghost use Rattle.ob_session.specs.Sound.{IsSound};
+
+use crate::names::function_name;
+use crate::world::{Cell, World};
+use ob_base::{Command, List, NewCell, NoMemory, Text};
+use ob_parse::{ParseError, parse_cell};
+use ob_tree::CellTree;
+use std::alloc::{AllocError, Global};
+
+/// Why a bundle opened no world.
+#[derive(Clone, Copy, Debug, PartialEq, Eq)]
+pub enum OpenError {
+    /// The bundle has a part that is not built yet.
+    NotBuilt,
+    /// An allocation was refused.
+    NoMemory,
+}
+
+impl From<NoMemory> for OpenError {
+    ghost use Rattle.std.specs.Prelude.{◌≡◌};
+    ghost use Rattle.ob_session.specs.declared.open.OpenError.TheVariants as errors;
+
+    ghost from_gives = { λ _ e. e ≡ errors.NoMemory };
+
+    fn from(_refused: NoMemory) -> OpenError {
+        OpenError::NoMemory
+    }
+}
+
+impl From<AllocError> for OpenError {
+    ghost use Rattle.std.specs.Prelude.{◌≡◌};
+    ghost use Rattle.ob_session.specs.declared.open.OpenError.TheVariants as errors;
+
+    ghost from_gives = { λ _ e. e ≡ errors.NoMemory };
+
+    fn from(_refused: AllocError) -> OpenError {
+        OpenError::NoMemory
+    }
+}
+
+fn has_id(cells: &[Cell], id: &str) -> bool
+    ensures { result ≡ has_id cells.now id.now }
+{
+    cells.iter().any(|c| c.id.as_str() == id)
+}
+
+fn has_name(cells: &[Cell], name: &str) -> bool
+    ensures { result ≡ has_name cells.now name.now }
+{
+    cells.iter().any(|c| c.name.as_str() == name)
+}
+
+fn place_of_name(cells: &[Cell], name: &str) -> Option<usize>
+    ensures value { result ≡ place_of_name cells.now name.now }
+    ensures within { IfSome result (λ place. place < length cells.now) }
+{
+    for (place, cell) in cells.iter().enumerate() {
+        if cell.name.as_str() == name {
+            return Some(place);
+        }
+    }
+    None
+}
+
+fn resolved(cells: &[Cell], name: Option<&Text>) -> Option<Option<usize>>
+    ensures value { result ≡ resolved cells.now (option_map (λ x. x.now) name.entry) }
+    ensures within { IfSome result (λ input. IfSome input (λ place. place < length cells.now)) }
+{
+    match name {
+        None => Some(None),
+        Some(name) => match place_of_name(cells, name.as_str()) {
+            Some(place) => Some(Some(place)),
+            None => None,
+        },
+    }
+}
+
+// The cell of a tree behind these.
+fn cell_behind(cells: &[Cell], id: Text, tree: CellTree) -> Option<Cell>
+    ensures value { result ≡ cell_behind cells.now id tree }
+    ensures within { IfSome result (λ cell. IfSome cell.input (λ place. place < length cells.now)) }
+{
+    let CellTree::Named(name, body) = tree else {
+        return None;
+    };
+    if has_id(cells, id.as_str()) || has_name(cells, name.as_str()) {
+        return None;
+    }
+    match resolved(cells, function_name(&body)) {
+        Some(input) => Some(Cell {
+            id,
+            name,
+            body,
+            input,
+        }),
+        None => None,
+    }
+}
+
+fn cell_from(alloc: Global, cells: &[Cell], new: &NewCell) -> Result<Cell, OpenError>
+    ensures value { Gives result (cell_from cells.now new.now) }
+    ensures within { IfOk result (λ cell. IfSome cell.input (λ place. place < length cells.now)) }
+{
+    match parse_cell(alloc, new.text.as_str()) {
+        Ok(tree) => match cell_behind(cells, new.id.copy(alloc)?, tree) {
+            Some(cell) => Ok(cell),
+            None => Err(OpenError::NotBuilt),
+        },
+        Err(ParseError::Syntax) => Err(OpenError::NotBuilt),
+        Err(ParseError::NoMemory) => Err(OpenError::NoMemory),
+    }
+}
+
+fn cells_from(alloc: Global, new: &[NewCell]) -> Result<List<Cell>, OpenError>
+    ensures value { Gives result (cells_from [] new.now) }
+    ensures built_up { IfOk result (λ cells. IsBuiltUp (map (λ c. c.input) cells)) }
+{
+    let mut cells = List::new(alloc);
+    for cell in new {
+        let cell = cell_from(alloc, cells.as_slice(), cell)?;
+        cells.push(cell)?;
+    }
+    Ok(cells)
+}
+
+fn new_world(alloc: Global, main: Text, cells: List<Cell>) -> Result<World, OpenError>
+    requires { IsBuiltUp (map (λ c. c.input) cells) }
+    ensures value { Gives result (Some (new_world main cells)) }
+    ensures sound { IfOk result IsSound }
+    ensures fresh { IfOk result (λ w. w.ticks ≡ 0) }
+{
+    let observed = vec![in alloc; false; cells.len()]?;
+    let live = vec![in alloc; false; cells.len()]?;
+    Ok(World {
+        main,
+        cells,
+        observed: List::from_vec(observed),
+        live: List::from_vec(live),
+        ticks: 0,
+    })
+}
+
+// The world of the notebook that is the main one.
+fn world_of_notebook(
+    alloc: Global,
+    main: &Text,
+    id: &Text,
+    cells: &[NewCell],
+) -> Result<World, OpenError>
+    ensures value { Gives result (world_of_notebook main.now id.now cells.now) }
+    ensures sound { IfOk result IsSound }
+    ensures fresh { IfOk result (λ w. w.ticks ≡ 0) }
+{
+    if id.as_str() != main.as_str() || cells.len() > 1_000 {
+        return Err(OpenError::NotBuilt);
+    }
+    let cells = cells_from(alloc, cells)?;
+    new_world(alloc, main.copy(alloc)?, cells)
+}
+
+/// The world that a bundle's notebooks open.
+///
+/// # Errors
+/// `NotBuilt` exactly where they are something else than one notebook, the main one, with at most
+/// 1,000 cells of distinct ids and names that are sums over names of cells before them; `NoMemory`
+/// where an allocation is refused.
+#[tactic(auto, unfolding(crate::specs::World::world_of))]
+pub fn open_world(alloc: Global, main: &Text, notebooks: &[Command]) -> Result<World, OpenError>
+    ensures value { Gives result (world_of main.now notebooks.now) }
+    ensures sound { IfOk result IsSound }
+    ensures fresh { IfOk result (λ w. w.ticks ≡ 0) }
+{
+    match notebooks {
+        [] => Err(OpenError::NotBuilt),
+        [Command::Notebook { id, cells }] => world_of_notebook(alloc, main, id, cells.as_slice()),
+        [_] => Err(OpenError::NotBuilt),
+        [_, _, ..] => Err(OpenError::NotBuilt),
+    }
+}
