@@ -1,15 +1,11 @@
 -- The answer for the bytes that were to come at first, from the answer for those that came.
-use Rattle.std.proofs.Common.{◌≡◌, ℕ, List, [], ◌++◌, Bool, None, Some, refl, sym, ap, ◌∙◌, append_assoc, subst}
+use Rattle.std.proofs.Common.{◌≡◌, ℕ, List, [], ◌++◌, Bool, None, Some, sym, ap, ◌∙◌, append_assoc, subst}
 use Rattle.std.proofs.lemmas.List.{append-nil}
 use Rattle.std.specs.declared.option.Option.{Option}
 use Rattle.std.specs.Io.KnownBytes.{Consumes, Keeps, IsAtEnd, prepend_known}
 use Rattle.ob_io.specs.Lines.{IsNext}
 use Rattle.ob_io.specs.declared.next_line.NextLine.{NextLine}
 use Rattle.ob_io.specs.declared.next_line.NextLine.TheVariants.{Line, End, LineTooLong, InputTooLong, ReadFault, NoMemory}
-
-pub Keeps-same : (a : Option (List ℕ)) → Keeps a a
-Keeps-same None = tt
-Keeps-same (Some xs) = refl
 
 -- a piece that was read goes behind the line
 pub Keeps-piece : (old left new : Option (List ℕ)) (line piece longer : List ℕ) → Keeps old (prepend_known line left) → Consumes left new piece → longer ≡ line ++ piece

@@ -15,6 +15,12 @@ next_count n = min (n + 1) (2 ^ 64 - 1)
 abbrev pub Rose : ℕ → ℕ → Type 0
 Rose before now = next_count before ≤ now
 
+-- a reader or a writer of the system: the bytes that it has left or holds, where std knows them,
+-- and how often it failed
+pub record SystemState : Type 0 where
+  pub bytes : Option (List ℕ)
+  pub faults : ℕ
+
 -- the count of faults after a read or a write, where each `Failed` counts and nothing else does
 abbrev pub faults_after_read : ℕ → ReadAnswer → ℕ
 faults_after_read faults read.Failed = next_count faults

@@ -68,7 +68,9 @@ impl LineReader {
         })
     }
 
-    /// The next line of the bytes that it keeps and those that the source has left.
+    /// The next line of the bytes that it keeps and those that the source has left. With each answer
+    /// but `Line` these bytes stay, so that the next call goes on after `ReadFault` and `NoMemory`.
+    /// After a `Line` that no line feed ended, the next call answers `End` and doesn't read.
     pub fn next_line<S: Source>(&mut self, source: &mut S) -> NextLine
         ensures next { IsFalse self.old.ended → IsNext self.old.line_limit (self.old.input_limit - self.old.handed)
             (prepend_known self.old.kept (S.left source.old)) (prepend_known self.new.kept (S.left source.new)) self.new.ended result }

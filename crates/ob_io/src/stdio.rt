@@ -1,30 +1,30 @@
 ghost use Rattle.std.specs.Prelude.{◌≡◌, ◌<◌, ◌≤◌, length};
-ghost use Rattle.ob_io.specs.Outside.{IsCount, IsTaken, Rose, faults_after_read, faults_after_write};
+ghost use Rattle.ob_io.specs.Outside.{IsCount, Takes, IsTaken, Gains, Rose, faults_after_read, faults_after_write};
 
 use crate::{ReadAnswer, Sink, Source, WriteAnswer};
 use std::io::{Read, Write};
 use std::marker::Model;
 
-/// Standard input, or another reader, whose content isn't told; contracts see how often a read
-/// failed.
+/// Standard input, or another reader, as a source that doesn't tell its content; contracts see what
+/// the reader has left, where std knows that, and how often a read failed.
 #[derive(Drop)]
-pub struct StdSource<R> {
+pub struct StdSource<R: Read> {
     inner: R,
     faults: u64,
 }
 
-impl<R> Model for StdSource<R> {
-    ghost use Rattle.std.specs.Prelude.{ℕ};
+impl<R: Read> Model for StdSource<R> {
+    ghost use Rattle.ob_io.specs.Outside.{SystemState};
 
-    ghost Value = { ℕ };
+    ghost Value = { SystemState };
 
-    ghost view = { λ s. s.faults };
+    ghost view = { λ s. record { bytes = R.remaining s.inner; faults = s.faults } };
 }
 
-impl<R> StdSource<R> {
+impl<R: Read> StdSource<R> {
     /// A source over a reader, with no fault so far.
     pub fn new(inner: R) -> StdSource<R>
-        ensures { result ≡ 0 }
+        ensures { result ≡ record { bytes = R.remaining inner; faults = 0 } }
     {
         StdSource { inner, faults: 0 }
     }
@@ -35,14 +35,15 @@ impl<R: Read> Source for StdSource<R> {
 
     ghost left = { λ _. None };
 
-    ghost faults = { λ s. s };
+    ghost faults = { λ s. s.faults };
 
     fn read(&mut self, buf: &mut [u8]) -> ReadAnswer
         requires { 0 < length buf.old }
+        ensures bytes { Takes self.old.bytes self.new.bytes result buf.new }
         ensures count { IsCount result (length buf.new) }
-        ensures faults { self.new ≡ faults_after_read self.old result }
-        ensures later { self.old ≤ self.new }
-        ensures failed { result ≡ ReadAnswer.Failed → Rose self.old self.new }
+        ensures faults { self.new.faults ≡ faults_after_read self.old.faults result }
+        ensures later { self.old.faults ≤ self.new.faults }
+        ensures failed { result ≡ ReadAnswer.Failed → Rose self.old.faults self.new.faults }
     {
         match self.inner.read(buf) {
             Ok(0) => ReadAnswer::End,
@@ -55,26 +56,26 @@ impl<R: Read> Source for StdSource<R> {
     }
 }
 
-/// Standard output, or another writer, whose content isn't told; contracts see how often a write
-/// failed.
+/// Standard output, or another writer, as a sink that doesn't tell its content; contracts see what
+/// the writer holds, where std knows that, and how often a write failed.
 #[derive(Drop)]
-pub struct StdSink<W> {
+pub struct StdSink<W: Write> {
     inner: W,
     faults: u64,
 }
 
-impl<W> Model for StdSink<W> {
-    ghost use Rattle.std.specs.Prelude.{ℕ};
+impl<W: Write> Model for StdSink<W> {
+    ghost use Rattle.ob_io.specs.Outside.{SystemState};
 
-    ghost Value = { ℕ };
+    ghost Value = { SystemState };
 
-    ghost view = { λ s. s.faults };
+    ghost view = { λ s. record { bytes = W.contents s.inner; faults = s.faults } };
 }
 
-impl<W> StdSink<W> {
+impl<W: Write> StdSink<W> {
     /// A sink over a writer, with no fault so far.
     pub fn new(inner: W) -> StdSink<W>
-        ensures { result ≡ 0 }
+        ensures { result ≡ record { bytes = W.contents inner; faults = 0 } }
     {
         StdSink { inner, faults: 0 }
     }
@@ -85,14 +86,15 @@ impl<W: Write> Sink for StdSink<W> {
 
     ghost held = { λ _. None };
 
-    ghost faults = { λ s. s };
+    ghost faults = { λ s. s.faults };
 
     fn write(&mut self, piece: &[u8]) -> WriteAnswer
         requires { 0 < length piece.now }
+        ensures bytes { Gains self.old.bytes self.new.bytes result piece.now }
         ensures count { IsTaken result (length piece.now) }
-        ensures faults { self.new ≡ faults_after_write self.old result }
-        ensures later { self.old ≤ self.new }
-        ensures failed { result ≡ WriteAnswer.Failed → Rose self.old self.new }
+        ensures faults { self.new.faults ≡ faults_after_write self.old.faults result }
+        ensures later { self.old.faults ≤ self.new.faults }
+        ensures failed { result ≡ WriteAnswer.Failed → Rose self.old.faults self.new.faults }
     {
         match self.inner.write(piece) {
             Ok(0) | Err(_) => {
