@@ -34,7 +34,7 @@ pub fn values_are_their_equation<A>()
 /// Induction over inputs: what holds of circular nodes, and of each other node whose inputs it
 /// holds of, holds of all.
 #[tactic(auto, using(crate::proofs::ValueLaws::induct_test))]
-pub fn circular_nodes_aside_inputs_come_first()
+pub fn induction_over_inputs()
     ensures { (nodes : List ℕ) (ins : ℕ → List ℕ) → OnlyNodes nodes ins → (p : ℕ → Bool) → ((v : ℕ) → circular nodes ins v ≡ true → p v ≡ true)
         → ((v : ℕ) → circular nodes ins v ≡ false → ((u : ℕ) → is_in u (ins v) ≡ true → p u ≡ true) → p v ≡ true)
         → (v : ℕ) → p v ≡ true }

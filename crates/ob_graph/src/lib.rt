@@ -7,8 +7,8 @@ mod search;
 
 pub use graph::{Graph, MAX_NODES};
 pub use laws::{
-    circular_nodes_aside_inputs_come_first, paths_are_found, reached_nodes_are_found,
-    values_are_their_equation, values_follow_inputs,
+    induction_over_inputs, paths_are_found, reached_nodes_are_found, values_are_their_equation,
+    values_follow_inputs,
 };
 
 #[cfg(test)]

@@ -1,6 +1,6 @@
 use crate::{
-    Graph, MAX_NODES, circular_nodes_aside_inputs_come_first, paths_are_found,
-    reached_nodes_are_found, values_are_their_equation, values_follow_inputs,
+    Graph, MAX_NODES, induction_over_inputs, paths_are_found, reached_nodes_are_found,
+    values_are_their_equation, values_follow_inputs,
 };
 use std::alloc::{AllocError, Global};
 use std::test::Fail;
@@ -102,5 +102,5 @@ fn laws_can_be_called(_rt: HostRuntime) {
     reached_nodes_are_found();
     values_follow_inputs::<u8>();
     values_are_their_equation::<u8>();
-    circular_nodes_aside_inputs_come_first();
+    induction_over_inputs();
 }
