@@ -1,0 +1,4 @@
+pub mod Paths
+pub mod Values
+pub mod Searches
+pub mod Lending
