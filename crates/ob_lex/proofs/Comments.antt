@@ -73,7 +73,7 @@ unfolding to_close
 close_sound before [] = tt
 close_sound before (c ∷ cs) = close_by before c cs (close_sound (before || is_line_end c) cs) (begins (codes "*/") (c ∷ cs)) refl
 
-holds_parts : (c : ℕ) (inner : Characters) → holds (codes "*/") (c ∷ inner) ≡ false → (begins (codes "*/") (c ∷ inner) ≡ false) × (holds (codes "*/") inner ≡ false)
+pub holds_parts : (c : ℕ) (inner : Characters) → holds (codes "*/") (c ∷ inner) ≡ false → (begins (codes "*/") (c ∷ inner) ≡ false) × (holds (codes "*/") inner ≡ false)
 holds_parts c inner h = go (begins (codes "*/") (c ∷ inner)) (holds (codes "*/") inner) h
   where
     go : (a b : Bool) → (a || b) ≡ false → (a ≡ false) × (b ≡ false)

@@ -57,7 +57,7 @@ piece_sound (c ∷ cs) = sound_by c cs (is_white_space c) (is_line_end c) (start
 
 -- ---- what may stand there is read, or a longer piece
 
-abbrev pick : {A : Type 0} → Class → (w l n d q m : A) → A
+abbrev pub pick : {A : Type 0} → Class → (w l n d q m : A) → A
 pick white w l n d q m = w
 pick line w l n d q m = l
 pick word w l n d q m = n
@@ -73,13 +73,13 @@ picked false false false true q W L N D Q M = refl
 picked false false false false true W L N D Q M = refl
 picked false false false false false W L N D Q M = refl
 
-abbrev of_class : Class → ℕ → Characters → Read Piece
+abbrev pub of_class : Class → ℕ → Characters → Read Piece
 of_class k c cs =
     pick k (Some (piece.WhiteSpace, cs)) (Some (piece.LineEnd, cs)) (read_map (λ k. piece.Token k) (word_at (suc (run continues_name cs)) (c ∷ cs)))
     (read_map (λ k. piece.Token k) (number_at c cs)) (read_map (λ k. piece.Token k) (text_at c cs))
     (comment_or_mark (comment_at (c ∷ cs)) (first_mark (marks_of c) (c ∷ cs)))
 
-at_class : (c : ℕ) (cs : Characters) (k : Class) → class_of c ≡ k → piece_at (c ∷ cs) ≡ of_class k c cs
+pub at_class : (c : ℕ) (cs : Characters) (k : Class) → class_of c ≡ k → piece_at (c ∷ cs) ≡ of_class k c cs
 unfolding piece_at
 at_class c cs k h =
     picked (is_white_space c) (is_line_end c) (starts_name c) (is_digit 10 c) (is_quote c)

@@ -9,4 +9,5 @@ pub mod Escapes
 pub mod Texts
 pub mod Front
 pub mod Cuts
+pub mod Closing
 pub mod Steps

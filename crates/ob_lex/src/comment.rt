@@ -1,14 +1,17 @@
 //! Comments.
 
-ghost use Rattle.std.specs.Prelude.{◌≡◌, option_map, false};
+ghost use Rattle.std.specs.Prelude.{◌≡◌, option_map, false, None};
+ghost use Rattle.ob_lex.specs.Closing.{MayClose};
 ghost use Rattle.ob_lex.specs.Reading as spec;
 
 use crate::characters::is_line_end;
 use crate::scan::{begins, line_run};
 
-/// The comment at the front of a text, as whether it holds a line end, and the rest.
+/// The comment at the front of a text, as whether it holds a line end, and the rest. A block comment
+/// is looked for only where the flag says that one may be closed.
 #[tactic(auto, unfolding(crate::specs::Reading::comment_at))]
-pub fn comment(text: &[char]) -> Option<(bool, &[char])>
+pub fn comment(closes: bool, text: &[char]) -> Option<(bool, &[char])>
+    requires { MayClose closes text.now }
     ensures { spec.comment_at text.now ≡ option_map (λ p. (p.0, p.1.now)) result }
 {
     match text {
@@ -18,13 +21,20 @@ pub fn comment(text: &[char]) -> Option<(bool, &[char])>
             } else if *b == '/' {
                 Some((false, &after[line_run(after)..]))
             } else if *b == '*' {
-                to_close(after)
+                block(closes, after)
             } else {
                 None
             }
         }
         _ => None,
     }
+}
+
+fn block(closes: bool, after: &[char]) -> Option<(bool, &[char])>
+    requires { closes ≡ false → spec.to_close false after.now ≡ None }
+    ensures { spec.to_close false after.now ≡ option_map (λ p. (p.0, p.1.now)) result }
+{
+    if closes { to_close(after) } else { None }
 }
 
 #[tactic(auto, unfolding(crate::specs::Reading::to_close))]

@@ -2,11 +2,13 @@
 
 ghost use Rattle.std.specs.Prelude.{◌≡◌, ◌<◌, ◌^◌, ◌++◌, length, false, OnOk};
 ghost use Rattle.ob_lex.specs.Characters.{bytes};
+ghost use Rattle.ob_lex.specs.Closing as closing;
 ghost use Rattle.ob_lex.specs.Tokens as division;
 ghost use Rattle.ob_lex.specs.Reading as spec;
 ghost use Rattle.ob_lex.specs.Reading.{Gives};
 
 use crate::piece::read_piece;
+use crate::scan::begins;
 use crate::{LexError, Piece, Token};
 use ob_base::{List, NoMemory};
 use std::alloc::Global;
@@ -20,16 +22,18 @@ pub fn divide(alloc: Global, text: &[char]) -> Result<List<Token>, LexError>
     let mut rest = text;
     let mut at = 0;
     let mut breaks = false;
+    let mut closes = true;
     for _turn in 0..text.len() {
         if rest.is_empty() {
             return Ok(tokens);
         }
-        let (kind, more) = match read_piece(alloc, rest) {
+        let (kind, more) = match read_piece(alloc, closes, rest) {
             Ok(read) => read,
             Err(error) => return Err(error),
         };
         let end = at + byte_len(&rest[..rest.len() - more.len()]);
         let after = breaks_after(&kind, breaks);
+        closes = closes_after(closes, rest, &kind);
         push(&mut tokens, kind, at, end, breaks)?;
         breaks = after;
         at = end;
@@ -71,6 +75,12 @@ fn breaks_after(kind: &Piece, breaks: bool) -> bool
         Piece::Comment(holds_line_end) => breaks || *holds_line_end,
         Piece::Token(_) => false,
     }
+}
+
+fn closes_after(closes: bool, text: &[char], kind: &Piece) -> bool
+    ensures { result ≡ closing.closes_after closes text.now kind.now }
+{
+    closes && (matches!(kind, Piece::Comment(_)) || !begins(b"/*", text))
 }
 
 /// How many bytes the characters take.

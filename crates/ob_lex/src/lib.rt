@@ -67,3 +67,6 @@ fn decoded(alloc: Global, text: &str) -> Result<Vec<char>, NoMemory>
 {
     Ok(text.chars().collect(alloc)?)
 }
+
+#[cfg(test)]
+mod tests;

@@ -2,6 +2,7 @@
 
 ghost use Rattle.std.specs.Prelude.{◌≡◌, ◌∷◌, List, ℕ, Option};
 ghost use Rattle.ob_lex.specs.Words as words;
+ghost use Rattle.ob_lex.specs.Closing.{MayClose};
 ghost use Rattle.ob_lex.specs.Reading as spec;
 ghost use Rattle.ob_lex.specs.Reading.{Gives};
 
@@ -25,11 +26,14 @@ pub enum Piece {
     Token(TokenKind),
 }
 
+/// The piece at the front of a text, and the rest. The flag says whether a comment may be closed.
 #[tactic(auto, unfolding(crate::specs::Reading::piece_at))]
 pub fn read_piece<'a>(
     alloc: Global,
+    closes: bool,
     characters: &'a [char],
 ) -> Result<(Piece, &'a [char]), LexError>
+    requires { MayClose closes characters.now }
     ensures { Gives (λ p. (p.0, p.1.now)) result (spec.piece_at characters.now) }
 {
     match characters {
@@ -46,7 +50,7 @@ pub fn read_piece<'a>(
             } else if is_quote(*first) {
                 as_token(text(alloc, *first, after))
             } else {
-                comment_or_mark(*first, characters)
+                comment_or_mark(*first, closes, characters)
             }
         }
     }
@@ -63,10 +67,15 @@ fn as_token<'a>(
     }
 }
 
-fn comment_or_mark<'a>(first: char, characters: &'a [char]) -> Result<(Piece, &'a [char]), LexError>
+fn comment_or_mark<'a>(
+    first: char,
+    closes: bool,
+    characters: &'a [char],
+) -> Result<(Piece, &'a [char]), LexError>
+    requires { MayClose closes characters.now }
     ensures { Gives (λ p. (p.0, p.1.now)) result (spec.comment_or_mark (spec.comment_at characters.now) (spec.first_mark (words.marks_of first) characters.now)) }
 {
-    match comment(characters) {
+    match comment(closes, characters) {
         Some((breaks, rest)) => Ok((Piece::Comment(breaks), rest)),
         None => match first_mark(marks_of(first), characters) {
             Some((mark, rest)) => Ok((Piece::Token(TokenKind::Punctuator(mark)), rest)),

@@ -1,10 +1,12 @@
-use Rattle.std.proofs.Common.{arith, ◌≡◌, ◌-◌, ◌+◌, ◌++◌, ◌<◌, ◌≤◌, false, length, take, ap, sym, ◌∙◌, Some, None}
+use Rattle.std.proofs.Common.{arith, ◌≡◌, ◌-◌, ◌+◌, ◌++◌, ◌<◌, ◌≤◌, false, length, take, ap, sym, subst, ◌∙◌, Some, None}
 use Rattle.std.proofs.lemmas.Grind.{common_steps}
 use Rattle.ob_lex.specs.Characters.{bytes}
 use Rattle.ob_lex.specs.Tokens.{shown, breaks_after}
+use Rattle.ob_lex.specs.Closing.{MayClose}
 use Rattle.ob_lex.specs.Reading.{cut, with_front, then_cut, piece_at}
 use Rattle.ob_lex.proofs.Turns.{one_more, no_more}
 use Rattle.ob_lex.proofs.Steps.{cut_step, cut_more, cut_ends, cut_stops, read_shorter, read_taken, read_bytes, error_passes}
+use Rattle.ob_lex.proofs.Closing.{closing_step}
 use Rattle.ob_lex.proofs.division.divide.Goals as goal
 
 pub returns-then-is_empty : goal.returns-then-is_empty
@@ -48,6 +50,7 @@ loop-turn-preserved c =
           ∙ ap (λ x. with_front x (cut n (breaks_after k c.loop-turn.breaks) (c.loop-turn.at + c.byte_len.result) more)) (sym c.in_ok-push.ensures)
           ∙ ap (λ x. with_front c.push.new.tokens (cut n x (c.loop-turn.at + c.byte_len.result) more)) (sym c.breaks_after-after.ensures),
       omega (arith, l, b, c.loop-turn.invariant.1),
+      subst (λ x. MayClose x more) (sym c.closes_after-closes.ensures) (closing_step c.loop-turn.closes rest more k c.loop-turn.invariant.2 c.in-Ok.ensures),
     )
 
 pub returns-then-is_empty-2 : goal.returns-then-is_empty-2
