@@ -1,11 +1,10 @@
 -- Where a `/*` is not closed, no later one is.
-use Rattle.std.proofs.Common.{◌≡◌, ℕ, suc, ◌+◌, ◌<◌, ◌≤◌, Bool, true, false, not, ◌||◌, ◌&&◌, ◌==◌, cond, List, [], ◌∷◌, ◌++◌, ◌-◌, length, take, drop, Option, Some, None, refl, ap, sym, ◌∙◌, subst, arith, ◌⊎◌, inl, inr}
+use Rattle.std.proofs.Common.{◌≡◌, ℕ, Bool, true, false, not, ◌||◌, ◌&&◌, ◌==◌, cond, [], ◌∷◌, ◌++◌, ◌-◌, length, take, drop, Some, None, refl, ap, sym, ◌∙◌, subst, ◌⊎◌, inl, inr}
 use Rattle.std.specs.Prelude.{codes}
 use Rattle.std.proofs.lemmas.List.{length-drop}
 use Rattle.std.proofs.Math.Seq.{take-length}
 use Rattle.std.proofs.lemmas.Bool.{eqb-true}
 use Rattle.ob_lex.specs.declared.piece.Piece.{Piece}
-use Rattle.ob_lex.specs.declared.piece.Piece.TheVariants as piece
 use Rattle.ob_lex.specs.declared.punctuator.Punctuator.{Punctuator}
 use Rattle.ob_lex.specs.Words.{marks_of}
 use Rattle.ob_lex.specs.Characters.{Characters, is_line_end, begins, holds}

@@ -1,12 +1,12 @@
 -- Comments.
-use Rattle.std.proofs.Common.{◌≡◌, ℕ, suc, ◌+◌, ◌<◌, ◌≤◌, Bool, true, false, not, ◌||◌, ◌&&◌, ◌==◌, cond, List, [], ◌∷◌, ◌++◌, length, take, drop, Option, Some, None, refl, ap, sym, ◌∙◌, subst, arith, length-append, take-append-drop, append_assoc}
+use Rattle.std.proofs.Common.{◌≡◌, ℕ, Bool, true, false, not, ◌||◌, ◌&&◌, ◌==◌, cond, [], ◌∷◌, ◌++◌, take, drop, Some, None, refl, ap, sym, ◌∙◌, subst, arith, length-append, take-append-drop, append_assoc}
 use Rattle.std.specs.Prelude.{codes}
 use Rattle.std.specs.List.{list_any}
 use Rattle.std.proofs.lemmas.List.{length-drop}
-use Rattle.std.proofs.lemmas.Bool.{eqb-true, eq-eqb}
+use Rattle.std.proofs.lemmas.Bool.{eqb-true}
 use Rattle.ob_lex.specs.Characters.{Characters, is_line_end, begins, holds}
 use Rattle.ob_lex.specs.Pieces.{Each, IsComment, to_line_end, closed}
-use Rattle.ob_lex.specs.Reading.{Read, run, to_close, comment_after, comment_at}
+use Rattle.ob_lex.specs.Reading.{run, to_close, comment_after, comment_at}
 use Rattle.ob_lex.proofs.Classes.{both}
 use Rattle.ob_lex.proofs.Tools.{OnRead, Took, on_weaker, Best, best_same, run_each, run_most}
 

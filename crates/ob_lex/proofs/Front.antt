@@ -1,5 +1,5 @@
 -- The piece that is read is the longest that may stand at the front, and the only one.
-use Rattle.std.proofs.Common.{◌≡◌, ℕ, suc, pos, negsuc, ◌+◌, ◌<◌, ◌≤◌, Bool, true, false, cond, List, [], ◌∷◌, ◌++◌, length, Option, Some, None, refl, ap, sym, ◌∙◌, subst, arith, length-append}
+use Rattle.std.proofs.Common.{◌≡◌, ℕ, suc, pos, negsuc, ◌<◌, Bool, true, false, cond, [], ◌∷◌, ◌++◌, length, Some, None, refl, ap, sym, ◌∙◌, subst, arith, length-append}
 use Rattle.std.specs.List.{list_any}
 use Rattle.ob_lex.specs.declared.punctuator.Punctuator.{Punctuator}
 use Rattle.ob_lex.specs.declared.token.TokenKind.{TokenKind}
@@ -8,11 +8,11 @@ use Rattle.ob_lex.specs.declared.piece.Piece.{Piece}
 use Rattle.ob_lex.specs.declared.piece.Piece.TheVariants as piece
 use Rattle.ob_lex.specs.Words.{mark_spelling, marks_of}
 use Rattle.ob_lex.specs.Characters.{Characters, is_white_space, is_line_end, starts_name, continues_name, is_digit, is_quote}
-use Rattle.ob_lex.specs.Pieces.{IsOne, IsComment, to_line_end, closed, IsWord, IsPiece, may_precede}
+use Rattle.ob_lex.specs.Pieces.{IsComment, to_line_end, closed, IsWord, IsPiece, may_precede}
 use Rattle.ob_lex.specs.Tokens.{IsLongest}
-use Rattle.ob_lex.specs.Reading.{Read, read_map, run, word_at, number_at, inside, text_at, comment_after, comment_at, first_mark, comment_or_mark, piece_at}
+use Rattle.ob_lex.specs.Reading.{Read, read_map, run, word_at, number_at, inside, text_at, comment_at, first_mark, comment_or_mark, piece_at}
 use Rattle.ob_lex.proofs.Classes.{Class, white, line, word, number, quoted, mark, class_by, class_of, white_first, line_first, word_first, number_first, text_first}
-use Rattle.ob_lex.proofs.Tools.{OnRead, Took, on_mapped, on_equal, Best, best_mapped, best_same, best_equal, split_once}
+use Rattle.ob_lex.proofs.Tools.{OnRead, Took, on_mapped, Best, best_mapped, best_same, best_equal, split_once}
 use Rattle.ob_lex.proofs.Words.{word_sound, name_best, reserved_best, reserved_is_word}
 use Rattle.ob_lex.proofs.Numbers.{number_sound, number_best, number_starts, number_no_empty}
 use Rattle.ob_lex.proofs.Texts.{text_sound, text_best}

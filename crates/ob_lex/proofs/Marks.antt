@@ -1,6 +1,5 @@
 -- Punctuators.
-use Rattle.std.proofs.Common.{◌≡◌, ℕ, suc, ◌+◌, ◌<◌, ◌≤◌, Bool, true, false, not, ◌||◌, ◌&&◌, ◌==◌, cond, leb, List, [], ◌∷◌, ◌++◌, length, take, drop, Option, Some, None, refl, ap, sym, ◌∙◌, subst, arith, ◌⊎◌, inl, inr, length-append, take-append-drop}
-use Rattle.std.proofs.lemmas.List.{length-drop}
+use Rattle.std.proofs.Common.{◌≡◌, ℕ, ◌+◌, ◌≤◌, Bool, true, false, ◌||◌, ◌&&◌, ◌==◌, cond, leb, List, [], ◌∷◌, ◌++◌, length, take, drop, Option, Some, None, refl, ap, sym, ◌∙◌, arith, ◌⊎◌, inl, inr, length-append, take-append-drop}
 use Rattle.std.proofs.Math.Seq.{drop-append_seam}
 use Rattle.std.proofs.lemmas.Bool.{eqb-true, eq-eqb, leb-true}
 use Rattle.ob_lex.specs.declared.punctuator.Punctuator.{Punctuator}
@@ -8,7 +7,7 @@ use Rattle.ob_lex.specs.declared.punctuator.Punctuator.TheVariants as mark
 use Rattle.ob_lex.specs.Words.{mark_spelling, marks_of}
 use Rattle.ob_lex.specs.Characters.{Characters, is_white_space, is_line_end, is_digit, is_quote, begins}
 use Rattle.ob_lex.specs.Pieces.{may_precede}
-use Rattle.ob_lex.specs.Reading.{Read, first_mark, same_text}
+use Rattle.ob_lex.specs.Reading.{first_mark, same_text}
 use Rattle.ob_lex.proofs.Classes.{both, class_of, closed_class}
 use Rattle.ob_lex.proofs.Classes as classes
 use Rattle.ob_lex.proofs.Tools.{OnRead, Took, Best, best_equal}

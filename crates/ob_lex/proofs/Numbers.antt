@@ -1,16 +1,15 @@
 -- Numbers.
-use Rattle.std.proofs.Common.{◌≡◌, ℕ, zero, suc, pos, negsuc, ◌+◌, ◌*◌, ◌<◌, ◌≤◌, Bool, true, false, not, ◌||◌, ◌&&◌, ◌==◌, eqb, leb, cond, List, [], ◌∷◌, ◌++◌, length, Option, Some, None, refl, ap, sym, ◌∙◌, subst, arith, ◌⊎◌, inl, inr}
-use Rattle.std.proofs.lemmas.Bool.{eqb-true, eq-eqb, leb-true}
+use Rattle.std.proofs.Common.{◌≡◌, ℕ, pos, ◌+◌, ◌*◌, ◌≤◌, Bool, true, false, not, ◌||◌, ◌&&◌, ◌==◌, leb, cond, [], ◌∷◌, ◌++◌, Option, Some, None, refl, ap, sym, ◌∙◌, subst, arith}
+use Rattle.std.proofs.lemmas.Bool.{eqb-true, leb-true}
 use Rattle.std.proofs.lemmas.Bool.Decides.{nat_tests}
 use Rattle.std.specs.Char.{digit_value}
 use Rattle.ob_lex.specs.declared.token.TokenKind.{TokenKind}
 use Rattle.ob_lex.specs.declared.token.TokenKind.TheVariants as kind
-use Rattle.ob_lex.specs.declared.piece.Piece.{Piece}
 use Rattle.ob_lex.specs.declared.piece.Piece.TheVariants as piece
 use Rattle.ob_lex.specs.Characters.{Characters, continues_name, is_digit, base_of, ends_number}
 use Rattle.ob_lex.specs.Pieces.{Digits, no_more, digit, separated, IsNumber, zero_alone, decimal, in_base, greatest, IsPiece}
-use Rattle.ob_lex.specs.Reading.{Read, digits_next, begins_digit, digits_from, number_digits, first_digit, based, after_zero, ended, number_at}
-use Rattle.ob_lex.proofs.Classes.{both, not_true, digit_continues, underscore_continues}
+use Rattle.ob_lex.specs.Reading.{Read, digits_next, begins_digit, digits_from, number_digits, based, after_zero, ended, number_at}
+use Rattle.ob_lex.proofs.Classes.{both, digit_continues, underscore_continues}
 use Rattle.ob_lex.proofs.Tools.{OnRead, Took, on_weaker, on_equal, Best, best_same}
 
 -- ---- what is read is a number

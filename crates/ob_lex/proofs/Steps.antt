@@ -1,7 +1,7 @@
 -- The steps of the loops.
-use Rattle.std.proofs.Common.{◌≡◌, ◌↔◌, ℕ, suc, ◌+◌, ◌-◌, ◌<◌, ◌≤◌, Bool, false, List, [], ◌∷◌, ◌++◌, length, take, drop, Option, Some, None, Result, Ok, Err, IfOk, option_map, refl, ap, sym, ◌∙◌, subst, arith, length-append, append_assoc}
+use Rattle.std.proofs.Common.{◌≡◌, ◌↔◌, ℕ, suc, ◌+◌, ◌-◌, ◌≤◌, Bool, false, List, [], ◌∷◌, ◌++◌, length, take, Option, Some, None, Result, Ok, Err, IfOk, refl, ap, sym, ◌∙◌, arith, length-append, append_assoc}
 use Rattle.std.proofs.lemmas.List.{append-nil}
-use Rattle.std.proofs.Math.Seq.{drop-append_seam, take-append_seam}
+use Rattle.std.proofs.Math.Seq.{take-append_seam}
 use Rattle.ob_lex.specs.declared.piece.Piece.{Piece}
 use Rattle.ob_lex.specs.declared.token.Token.{Token}
 use Rattle.ob_lex.specs.declared.error.LexError.{LexError}
@@ -12,7 +12,7 @@ use Rattle.ob_lex.specs.Characters.{Characters, bytes}
 use Rattle.ob_lex.specs.Pieces.{units_of}
 use Rattle.ob_lex.specs.Tokens.{shown, breaks_after, Tokens}
 use Rattle.ob_lex.specs.Reading.{Read, element_at, with_units, then_inside, inside, piece_at, with_front, then_cut, cut, Fails, Gives}
-use Rattle.ob_lex.proofs.Front.{read_front, no_empty}
+use Rattle.ob_lex.proofs.Front.{read_front}
 use Rattle.ob_lex.proofs.Cuts.{bytes_append, read_tokens, tokens_read, no_division}
 
 pub inside_step : (n quote : ℕ) (rest : Characters) (r : Read Element) → element_at quote rest ≡ r → inside (suc n) quote rest ≡ then_inside r (inside n quote)

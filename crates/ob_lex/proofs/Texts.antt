@@ -1,16 +1,15 @@
 -- Texts in quotes.
-use Rattle.std.proofs.Common.{◌≡◌, ℕ, zero, suc, ◌+◌, ◌<◌, ◌≤◌, Bool, true, false, not, ◌||◌, ◌&&◌, ◌==◌, cond, List, [], ◌∷◌, ◌++◌, length, Option, Some, None, refl, ap, sym, ◌∙◌, subst, arith, ◌⊎◌, inl, inr, length-append, append_assoc}
+use Rattle.std.proofs.Common.{◌≡◌, ℕ, zero, suc, ◌≤◌, Bool, true, false, not, ◌||◌, ◌==◌, cond, List, [], ◌∷◌, ◌++◌, length, Option, Some, None, refl, ap, sym, ◌∙◌, subst, arith, inl, inr, length-append, append_assoc}
 use Rattle.std.specs.Char.Escape.{encode_utf16}
 use Rattle.std.proofs.lemmas.Bool.{eqb-true, eq-eqb}
-use Rattle.ob_lex.specs.declared.token.TokenKind.{TokenKind}
 use Rattle.ob_lex.specs.declared.token.TokenKind.TheVariants as kind
 use Rattle.ob_lex.specs.declared.quoted.Element.{Element}
 use Rattle.ob_lex.specs.declared.quoted.Element.TheVariants as element
-use Rattle.ob_lex.specs.Characters.{Characters, is_quote, is_plain, is_digit, begins_with_digit}
-use Rattle.ob_lex.specs.Pieces.{IsEscape, units_of, Inside, closes, plain, escape, IsText}
+use Rattle.ob_lex.specs.Characters.{Characters, is_quote, is_plain, begins_with_digit}
+use Rattle.ob_lex.specs.Pieces.{units_of, Inside, closes, plain, escape, IsText}
 use Rattle.ob_lex.specs.Reading.{Read, read_map, escape_at, element_at, with_units, after_element, then_inside, inside, text_at}
 use Rattle.ob_lex.proofs.Classes.{either}
-use Rattle.ob_lex.proofs.Tools.{OnRead, Took, on_weaker, on_mapped, on_equal, Best, best_same}
+use Rattle.ob_lex.proofs.Tools.{OnRead, Took, on_weaker, on_mapped, Best, best_same}
 use Rattle.ob_lex.proofs.Escapes.{Escape_of, escape_sound, escape_again, escape_moved, no_line_feed}
 
 no_empty : (quote : ℕ) (front : Characters) (units : List ℕ) → Inside quote front units → front ≡ [] → ⊥

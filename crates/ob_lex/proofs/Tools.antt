@@ -1,5 +1,5 @@
 -- What is read at the front of a text, and how far.
-use Rattle.std.proofs.Common.{◌≡◌, ℕ, suc, ◌+◌, ◌<◌, ◌≤◌, Bool, true, false, cond, List, [], ◌∷◌, ◌++◌, length, take, drop, Option, Some, None, refl, ap, sym, ◌∙◌, subst, arith, length-append}
+use Rattle.std.proofs.Common.{◌≡◌, ℕ, suc, ◌≤◌, Bool, true, false, cond, [], ◌∷◌, ◌++◌, length, take, Some, None, refl, ap, sym, subst, arith}
 use Rattle.ob_lex.specs.Characters.{Characters}
 use Rattle.ob_lex.specs.Reading.{Read, read_map, run}
 use Rattle.ob_lex.specs.Pieces.{Each}

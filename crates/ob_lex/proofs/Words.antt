@@ -1,25 +1,24 @@
 -- Names and reserved words.
-use Rattle.std.proofs.Common.{◌≡◌, ◌≢◌, ℕ, suc, ◌+◌, ◌<◌, ◌≤◌, Bool, true, false, ◌||◌, ◌&&◌, ◌==◌, cond, List, [], ◌∷◌, ◌++◌, length, take, drop, Option, Some, None, refl, ap, sym, ◌∙◌, subst, arith, length-append, take-append-drop}
-use Rattle.std.proofs.lemmas.List.{length-drop, length-take, take-append-le, drop-append-le}
-use Rattle.std.proofs.Math.Seq.{drop-append_seam, take-append_seam}
-use Rattle.std.proofs.lemmas.Bool.{eqb-true, eq-eqb}
+use Rattle.std.proofs.Common.{◌≡◌, ◌≢◌, ℕ, suc, ◌<◌, ◌≤◌, Bool, true, false, ◌||◌, ◌&&◌, ◌==◌, cond, List, [], ◌∷◌, ◌++◌, length, take, drop, Option, Some, None, refl, ap, sym, ◌∙◌, subst, arith, length-append, take-append-drop}
+use Rattle.std.proofs.lemmas.List.{length-drop}
+use Rattle.std.proofs.Math.Seq.{take-append_seam}
+use Rattle.std.proofs.lemmas.Bool.{eqb-true}
 use Rattle.std.proofs.lemmas.Bool.Decides.{nat_tests}
 use Rattle.std.specs.Prelude.{encode_utf8_all}
-use Rattle.std.specs.Char.{is_ascii_alphabetic, is_ascii_alphanumeric}
+use Rattle.std.specs.Char.{is_ascii_alphabetic}
 use Rattle.unicode_ident.specs.Ident.{is_xid_start, is_xid_continue}
 use Rattle.unicode_ident.proofs.IdentLemmas.{is_xid_start-ascii, is_xid_continue-ascii}
 use Rattle.ob_lex.specs.declared.reserved.ReservedWord.{ReservedWord}
 use Rattle.ob_lex.specs.declared.reserved.ReservedWord.TheVariants as word
 use Rattle.ob_lex.specs.declared.token.TokenKind.{TokenKind}
 use Rattle.ob_lex.specs.declared.token.TokenKind.TheVariants as kind
-use Rattle.ob_lex.specs.declared.piece.Piece.{Piece}
 use Rattle.ob_lex.specs.declared.piece.Piece.TheVariants as piece
 use Rattle.ob_lex.specs.Words.{spelling, every_word}
 use Rattle.ob_lex.specs.Characters.{Characters, starts_name, continues_name}
 use Rattle.ob_lex.specs.Pieces.{Each, IsWord, IsPiece}
-use Rattle.ob_lex.specs.Reading.{Read, run, same_text, find_word, reserved_word, word_kind, word_at}
+use Rattle.ob_lex.specs.Reading.{run, same_text, find_word, reserved_word, word_kind, word_at}
 use Rattle.ob_lex.proofs.Classes.{both}
-use Rattle.ob_lex.proofs.Tools.{OnRead, Took, Best, run_each, run_most, run_length, split_once}
+use Rattle.ob_lex.proofs.Tools.{OnRead, Took, Best, run_each, run_most, run_length}
 
 same_by : (w c : ℕ) (ws cs : Characters) (b : Bool) → (w == c) ≡ b → (same_text ws cs ≡ true → ws ≡ cs) → (b && same_text ws cs) ≡ true → w ∷ ws ≡ c ∷ cs
 same_by w c ws cs true e more h = let q : w ≡ c = eqb-true w c e in let r : ws ≡ cs = more h in cc

@@ -1,12 +1,11 @@
 -- The pieces that a text is cut into, and where each may stand.
-use Rattle.std.specs.Prelude.{◌≡◌, ◌≢◌, ℕ, pos, negsuc, ◌+◌, ◌*◌, ◌-◌, ◌≤◌, Bool, true, false, not, ◌==◌, List, [], ◌∷◌, ◌++◌, codes, Option, Some, None, encode_utf8_all, nat_lt}
+use Rattle.std.specs.Prelude.{◌≡◌, ◌≢◌, ℕ, pos, negsuc, ◌+◌, ◌*◌, ◌≤◌, Bool, true, false, not, ◌==◌, List, [], ◌∷◌, ◌++◌, codes, Option, Some, None, encode_utf8_all}
 use Rattle.std.specs.List.{list_any}
 use Rattle.std.specs.Char.{digit_value}
 use Rattle.std.specs.Char.Escape.{encode_utf16}
 use Rattle.ob_lex.specs.declared.reserved.ReservedWord.{ReservedWord}
 use Rattle.ob_lex.specs.declared.punctuator.Punctuator.{Punctuator}
 use Rattle.ob_lex.specs.declared.punctuator.Punctuator.TheVariants.{QuestionDot}
-use Rattle.ob_lex.specs.declared.token.TokenKind.{TokenKind}
 use Rattle.ob_lex.specs.declared.token.TokenKind.TheVariants as kind
 use Rattle.ob_lex.specs.declared.piece.Piece.{Piece}
 use Rattle.ob_lex.specs.declared.piece.Piece.TheVariants as piece

@@ -2,7 +2,6 @@
 -- tokens of `Tokens.antt`, and all of them; the code gives what they give.
 use Rattle.std.specs.Prelude.{◌≡◌, ◌≤◌, ℕ, zero, suc, pos, ◌+◌, ◌-◌, ◌*◌, Bool, true, false, not, ◌||◌, ◌&&◌, ◌==◌, nat_le, List, [], ◌∷◌, ◌++◌, length, take, drop, codes, encode_utf8_all, Option, Some, None, option_map, if◌then◌else◌, Result, Ok, Err}
 use Rattle.std.specs.Char.{digit_value}
-use Rattle.std.specs.Char.Escape.{encode_utf16}
 use Rattle.ob_lex.specs.declared.reserved.ReservedWord.{ReservedWord}
 use Rattle.ob_lex.specs.declared.punctuator.Punctuator.{Punctuator}
 use Rattle.ob_lex.specs.declared.token.TokenKind.{TokenKind}
@@ -15,7 +14,7 @@ use Rattle.ob_lex.specs.declared.quoted.Element.TheVariants as element
 use Rattle.ob_lex.specs.declared.error.LexError.{LexError}
 use Rattle.ob_lex.specs.declared.error.LexError.TheVariants as errors
 use Rattle.ob_lex.specs.Words.{spelling, every_word, mark_spelling, marks_of}
-use Rattle.ob_lex.specs.Characters.{Characters, bytes, is_white_space, is_line_end, starts_name, continues_name, is_digit, is_quote, base_of, is_escaped, escaped, begins_with_digit, ends_number, begins}
+use Rattle.ob_lex.specs.Characters.{Characters, bytes, is_white_space, is_line_end, starts_name, continues_name, is_digit, is_quote, base_of, escaped, begins_with_digit, ends_number, begins}
 use Rattle.ob_lex.specs.Pieces.{greatest, units_of, may_precede}
 use Rattle.ob_lex.specs.Tokens.{breaks_after, shown}
 

@@ -1,5 +1,4 @@
-use Rattle.std.proofs.Common.{◌≡◌, ◌∙◌, subst, length, IfOk, Err, false}
-use Rattle.ob_lex.specs.declared.error.LexError.TheVariants as errors
+use Rattle.std.proofs.Common.{◌∙◌, subst, length, false}
 use Rattle.ob_lex.specs.Characters.{Characters}
 use Rattle.ob_lex.specs.Reading.{Gives, cut}
 use Rattle.ob_lex.proofs.Steps.{yes_of, no_of}

@@ -1,9 +1,9 @@
-use Rattle.std.proofs.Common.{arith, ◌≡◌, ◌-◌, ◌+◌, ◌++◌, ◌<◌, ◌≤◌, false, length, take, ap, sym, subst, ◌∙◌, Some, None}
+use Rattle.std.proofs.Common.{arith, ◌≡◌, ◌-◌, ◌+◌, ◌≤◌, false, length, ap, sym, subst, ◌∙◌, None}
 use Rattle.std.proofs.lemmas.Grind.{common_steps}
 use Rattle.ob_lex.specs.Characters.{bytes}
-use Rattle.ob_lex.specs.Tokens.{shown, breaks_after}
+use Rattle.ob_lex.specs.Tokens.{breaks_after}
 use Rattle.ob_lex.specs.Closing.{MayClose}
-use Rattle.ob_lex.specs.Reading.{cut, with_front, then_cut, piece_at}
+use Rattle.ob_lex.specs.Reading.{cut, with_front, piece_at}
 use Rattle.ob_lex.proofs.Turns.{one_more, no_more}
 use Rattle.ob_lex.proofs.Steps.{cut_step, cut_more, cut_ends, cut_stops, read_shorter, read_taken, read_bytes, error_passes}
 use Rattle.ob_lex.proofs.Closing.{closing_step}

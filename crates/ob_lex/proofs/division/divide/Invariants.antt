@@ -1,4 +1,4 @@
-use Rattle.std.proofs.Common.{◌≡◌, ◌+◌, ◌-◌, ◌++◌, false, length}
+use Rattle.std.proofs.Common.{◌≡◌, ◌+◌, ◌-◌, false, length}
 use Rattle.ob_lex.specs.Characters.{bytes}
 use Rattle.ob_lex.specs.Closing.{MayClose}
 use Rattle.ob_lex.specs.Reading.{cut, with_front}

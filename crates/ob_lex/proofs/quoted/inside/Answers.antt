@@ -1,7 +1,5 @@
-use Rattle.std.proofs.Common.{◌≡◌, ◌-◌, ◌+◌, ◌++◌, length, ap, ◌∙◌, Some, None, sym}
-use Rattle.ob_lex.specs.declared.quoted.Element.TheVariants as element
-use Rattle.ob_lex.specs.Pieces.{units_of}
-use Rattle.ob_lex.specs.Reading.{inside, with_units, after_element}
+use Rattle.std.proofs.Common.{◌-◌, ◌+◌, length, ap, ◌∙◌, Some, None, sym}
+use Rattle.ob_lex.specs.Reading.{inside, with_units}
 use Rattle.ob_lex.proofs.Turns.{one_more, no_more}
 use Rattle.ob_lex.proofs.Steps.{inside_step, inside_stops, inside_closes, inside_gives}
 use Rattle.ob_lex.proofs.quoted.inside.Goals as goal
