@@ -44,10 +44,6 @@ not_start d lt h = ap (λ b. d == 36 || d == 95 || b) (is_xid_start-ascii d lt) 
 same_start : (c d : ℕ) → (c == d) ≡ true → starts_name d ≡ false → starts_name c ≡ false
 same_start c d e h = ap starts_name (eqb-true c d e) ∙ h
 
--- at closed code points
-far_start : (c d : ℕ) → (c == d) ≡ true → starts_name d ≡ false → starts_name c ≡ false
-far_start c d e h = same_start c d e h
-
 space_range : (c : ℕ) → 0x2000 ≤ c → c ≤ 0x200A → starts_name c ≡ false
 unfolding starts_name unicode_ident
 space_range c low high =
