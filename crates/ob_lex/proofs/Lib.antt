@@ -1,0 +1,13 @@
+pub mod Turns
+pub mod Classes
+pub mod Tools
+pub mod Words
+pub mod Numbers
+pub mod Comments
+pub mod Marks
+pub mod Escapes
+pub mod Texts
+pub mod Front
+pub mod Cuts
+pub mod Closing
+pub mod Steps

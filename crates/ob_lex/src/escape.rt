@@ -1,0 +1,135 @@
+//! What stands after a backslash.
+
+ghost use Rattle.std.specs.Prelude.{◌≡◌, ◌≤◌, ◌<◌, ◌∷◌, option_map, IfSome};
+ghost use Rattle.ob_lex.specs.Characters as characters;
+ghost use Rattle.ob_lex.specs.Reading as spec;
+
+use crate::characters::{begins_with_digit, digit_of, escaped, is_decimal, is_line_end};
+
+/// The code point that an escape gives, none where a line goes on, and the rest.
+#[tactic(auto, unfolding(crate::specs::Reading::escape_at))]
+pub fn escape(text: &[char]) -> Option<(Option<u32>, &[char])>
+    ensures value { spec.escape_at text.now ≡ option_map (λ p. (p.0, p.1.now)) result }
+    ensures within { IfSome result (λ p. IfSome p.0 (λ code. code ≤ 0x10FFFF)) }
+{
+    match text {
+        [] => None,
+        [c, after @ ..] => {
+            if is_line_end(*c) {
+                Some((None, after_line_end(*c, after)))
+            } else if *c == 'x' {
+                two_digits(after)
+            } else if *c == 'u' {
+                unicode(after)
+            } else if is_decimal(*c) {
+                if *c == '0' && !begins_with_digit(after) {
+                    Some((Some(0), after))
+                } else {
+                    None
+                }
+            } else {
+                Some((Some(escaped(*c)), after))
+            }
+        }
+    }
+}
+
+fn after_line_end(c: char, text: &[char]) -> &[char]
+    ensures { result.now ≡ spec.after_line_end c text.now }
+{
+    match text {
+        [] => text,
+        [d, after @ ..] => { if c == '\r' && *d == '\n' { after } else { text } }
+    }
+}
+
+fn hex(c: char) -> Option<u32>
+    ensures value { result ≡ characters.digit_of 16 c }
+    ensures within { IfSome result (λ d. d < 16) }
+{
+    digit_of(16, c)
+}
+
+fn two_digits(text: &[char]) -> Option<(Option<u32>, &[char])>
+    ensures value { spec.two_digits text.now ≡ option_map (λ p. (p.0, p.1.now)) result }
+    ensures within { IfSome result (λ p. IfSome p.0 (λ code. code ≤ 0x10FFFF)) }
+{
+    match text {
+        [a, b, after @ ..] => {
+            let code = hex(*a)? * 16 + hex(*b)?;
+            Some((Some(code), after))
+        }
+        _ => None,
+    }
+}
+
+fn unicode(text: &[char]) -> Option<(Option<u32>, &[char])>
+    ensures value { spec.unicode_at text.now ≡ option_map (λ p. (p.0, p.1.now)) result }
+    ensures within { IfSome result (λ p. IfSome p.0 (λ code. code ≤ 0x10FFFF)) }
+{
+    match text {
+        [] => None,
+        [c, after @ ..] => {
+            if *c == '{' {
+                in_braces(after)
+            } else {
+                four_digits(text)
+            }
+        }
+    }
+}
+
+fn four_digits(text: &[char]) -> Option<(Option<u32>, &[char])>
+    ensures value { spec.four_digits text.now ≡ option_map (λ p. (p.0, p.1.now)) result }
+    ensures within { IfSome result (λ p. IfSome p.0 (λ code. code ≤ 0x10FFFF)) }
+{
+    match text {
+        [a, b, c, d, after @ ..] => {
+            let high = hex(*a)? * 16 + hex(*b)?;
+            let low = hex(*c)? * 16 + hex(*d)?;
+            Some((Some(high * 256 + low), after))
+        }
+        _ => None,
+    }
+}
+
+fn in_braces(text: &[char]) -> Option<(Option<u32>, &[char])>
+    ensures value { spec.in_braces text.now ≡ option_map (λ p. (p.0, p.1.now)) result }
+    ensures within { IfSome result (λ p. IfSome p.0 (λ code. code ≤ 0x10FFFF)) }
+{
+    match text {
+        [] => None,
+        [d, after @ ..] => match hex(*d) {
+            Some(digit) => to_brace(digit, after),
+            None => None,
+        },
+    }
+}
+
+fn to_brace(first: u32, text: &[char]) -> Option<(Option<u32>, &[char])>
+    requires { first ≤ 0x10FFFF }
+    ensures value { spec.to_brace first text.now ≡ option_map (λ p. (p.0, p.1.now)) result }
+    ensures within { IfSome result (λ p. IfSome p.0 (λ code. code ≤ 0x10FFFF)) }
+{
+    let mut code = first;
+    let mut rest = text;
+    while let [c, after @ ..] = rest {
+        match hex(*c) {
+            Some(digit) => {
+                code = code * 16 + digit;
+                if code > 0x10_FFFF {
+                    return None;
+                }
+            }
+            None => {
+                return if *c == '}' {
+                    Some((Some(code), after))
+                } else {
+                    None
+                };
+            }
+        }
+        rest = after;
+    }
+    None
+}
