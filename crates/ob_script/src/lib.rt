@@ -14,3 +14,6 @@ mod word;
 pub use bundle::{BundleLine, read_bundle};
 pub use command::read_command;
 pub use read_error::ReadError;
+
+#[cfg(test)]
+mod tests;
