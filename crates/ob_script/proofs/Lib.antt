@@ -1,2 +1,5 @@
 pub mod Entries
 pub mod JsonReading
+pub mod Props
+pub mod Utf16
+pub mod Written

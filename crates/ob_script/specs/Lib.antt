@@ -5,3 +5,4 @@ pub mod Gives
 pub mod Ids
 pub mod Inputs
 pub mod Json
+pub mod Texts

@@ -9,11 +9,16 @@ mod json;
 mod limits;
 mod plain;
 mod read_error;
+mod text;
+mod units;
 mod word;
 
 pub use bundle::{BundleLine, read_bundle};
 pub use command::read_command;
 pub use read_error::ReadError;
+
+
+
 
 #[cfg(test)]
 mod tests;
