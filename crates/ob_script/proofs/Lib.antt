@@ -1,3 +1,4 @@
+pub mod Back
 pub mod Entries
 pub mod JsonReading
 pub mod Props

@@ -1,7 +1,7 @@
 -- What a property is written as.
-use Rattle.std.proofs.Common.{◌≡◌, ℕ, ◌+◌, ◌<◌, List, ◌∷◌, length, get_or, drop, map, refl, sym, ap, ◌∙◌, rules}
+use Rattle.std.proofs.Common.{◌≡◌, ℕ, ◌+◌, ◌<◌, List, length, get_or, drop, map, refl, sym, ◌∙◌, rules}
 use Rattle.std.proofs.lemmas.List.{at_drop_more}
-use Rattle.serde_json.specs.Data.{Data, Members, put}
+use Rattle.serde_json.specs.Data.{Members, put}
 use Rattle.ob_base.specs.PlainData.{nesting, prop_nesting}
 use Rattle.ob_base.specs.declared.plain.PlainProp.{PlainProp}
 use Rattle.ob_base.specs.declared.plain.Plain.{the_lemmas}

@@ -1,6 +1,7 @@
 pub mod Bundles
 pub mod Commands
 pub mod Fields
+pub mod Forms
 pub mod Gives
 pub mod Ids
 pub mod Inputs

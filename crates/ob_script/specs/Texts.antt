@@ -1,5 +1,5 @@
 -- The line that a command or a bundle is written as: JSON with no space, the keys of each object in byte order (this project).
-use Rattle.std.specs.Prelude.{ℕ, pos, List, [], ◌∷◌, map, codes, Option, Some, None}
+use Rattle.std.specs.Prelude.{ℕ, List, [], ◌∷◌, map, codes, Option, Some, None}
 use Rattle.std.specs.Char.Utf16.{utf16_lossy_chars}
 use Rattle.std.specs.Str.{encode_utf8_all}
 use Rattle.serde_json.specs.Data.{Data, null, boolean, number, string, array, object, unsigned, Members, no_members, member, put}
@@ -9,6 +9,7 @@ use Rattle.serde_json.specs.Written.{compact_text}
 use Rattle.ob_base.specs.declared.command.Command.{Command}
 use Rattle.ob_base.specs.declared.command.Command.TheVariants as commands
 use Rattle.ob_base.specs.declared.command.NewCell.{NewCell}
+use Rattle.ob_base.specs.PlainData.{nesting}
 use Rattle.ob_base.specs.declared.plain.Plain.{Plain, fold-Plain}
 use Rattle.ob_base.specs.declared.plain.PlainProp.{PlainProp, fold-PlainProp}
 use Rattle.ob_base.specs.declared.plain.Plain.TheOpen.{Plain-F, PlainProp-F}
@@ -97,6 +98,11 @@ command_data (commands.Input notebook cell value) = input_data notebook cell val
 command_data (commands.Observe notebook cell) = cell_command_data (codes "observe") notebook cell
 command_data (commands.Unobserve notebook cell) = cell_command_data (codes "unobserve") notebook cell
 command_data commands.Tick = tick_data
+
+-- how deep the value of an input is
+abbrev pub input_nesting : Command → ℕ
+input_nesting (commands.Input notebook cell value) = nesting value
+input_nesting _ = 0
 
 -- a bundle of one notebook, which has the main one's id
 abbrev pub notebook_data : List ℕ → List NewCell → Data

@@ -16,9 +16,7 @@ mod word;
 pub use bundle::{BundleLine, read_bundle};
 pub use command::read_command;
 pub use read_error::ReadError;
-
-
-
+pub use text::{bundle_text, command_text};
 
 #[cfg(test)]
 mod tests;

@@ -1,10 +1,14 @@
-ghost use Rattle.std.specs.Prelude.{◌≡◌, ◌+◌, ◌≤◌, IfOk, false, map, string_bytes};
+ghost use Rattle.std.specs.Prelude.{◌≡◌, ◌+◌, ◌≤◌, ◌&&◌, IsTrue, IfOk, false, map, string_bytes};
 ghost use Rattle.serde_json.specs.Data.{no_members, depth, items_depth, members_depth};
 ghost use Rattle.serde_json.specs.Find.{of_integer};
 ghost use Rattle.serde_json.specs.View.{view, items_of, items_view, members_view};
 ghost use Rattle.serde_json.specs.Written.{has_float, items_have_float, members_have_float};
 ghost use Rattle.ob_base.specs.PlainData.{greatest, nesting, prop_nesting};
-ghost use Rattle.ob_script.specs.Texts.{plain_data, prop_data, put_all, cell_data, cells_data, command_data, notebook_data, bundle_data, text_data, place_data, cell_command_data, input_data};
+ghost use Rattle.ob_script.specs.Bundles.{bundle_of_line, one_notebook};
+ghost use Rattle.ob_script.specs.Commands.{command_of_line};
+ghost use Rattle.ob_script.specs.Forms.{has_forms, have_ids};
+ghost use Rattle.ob_script.specs.Ids.{is_notebook_id};
+ghost use Rattle.ob_script.specs.Texts.{plain_data, prop_data, put_all, cell_data, cells_data, command_data, notebook_data, bundle_data, text_data, place_data, cell_command_data, input_data, define_data, notebook_command_data, tick_data, input_nesting, text_of_command, text_of_bundle};
 
 use crate::units::text_of_units;
 use ob_base::{Command, List, NewCell, NoMemory, Plain, PlainProp, Text};
@@ -95,12 +99,7 @@ fn bundle_value(alloc: Global, main: &str, cells: &[NewCell]) -> Result<Value, N
     Ok(json!(in alloc; {"main": main, "notebooks": [notebook], "version": 1u64})?)
 }
 
-fn text_value(
-    alloc: Global,
-    word: &str,
-    notebook: &str,
-    cell: &NewCell,
-) -> Result<Value, NoMemory>
+fn text_value(alloc: Global, word: &str, notebook: &str, cell: &NewCell) -> Result<Value, NoMemory>
     ensures data { IfOk result (λ v. view v ≡ text_data word.now notebook.now cell.now) }
     ensures whole { IfOk result (λ v. has_float (view v) ≡ false) }
     ensures deep { IfOk result (λ v. depth (view v) ≤ 1) }
@@ -110,19 +109,16 @@ fn text_value(
     Ok(json!(in alloc; {"cell": id, "do": word, "notebook": notebook, "text": text})?)
 }
 
-fn place_value(
-    alloc: Global,
-    notebook: &str,
-    cell: &NewCell,
-    place: u32,
-) -> Result<Value, NoMemory>
+fn place_value(alloc: Global, notebook: &str, cell: &NewCell, place: u32) -> Result<Value, NoMemory>
     ensures data { IfOk result (λ v. view v ≡ place_data notebook.now cell.now place) }
     ensures whole { IfOk result (λ v. has_float (view v) ≡ false) }
     ensures deep { IfOk result (λ v. depth (view v) ≤ 1) }
 {
     let id = cell.id.as_str();
     let text = cell.text.as_str();
-    Ok(json!(in alloc; {"cell": id, "do": "define", "notebook": notebook, "place": place, "text": text})?)
+    Ok(
+        json!(in alloc; {"cell": id, "do": "define", "notebook": notebook, "place": place, "text": text})?,
+    )
 }
 
 fn cell_command_value(
@@ -138,16 +134,109 @@ fn cell_command_value(
     Ok(json!(in alloc; {"cell": cell, "do": word, "notebook": notebook})?)
 }
 
-fn input_value(
-    alloc: Global,
-    notebook: &str,
-    cell: &str,
-    value: &Plain,
-) -> Result<Value, NoMemory>
+fn input_value(alloc: Global, notebook: &str, cell: &str, value: &Plain) -> Result<Value, NoMemory>
     ensures data { IfOk result (λ v. view v ≡ input_data notebook.now cell.now value.now) }
     ensures whole { IfOk result (λ v. has_float (view v) ≡ false) }
     ensures deep { IfOk result (λ v. depth (view v) ≤ nesting value.now + 1) }
 {
     let value = plain_value(alloc, value)?;
     Ok(json!(in alloc; {"cell": cell, "do": "input", "notebook": notebook, "value": value})?)
+}
+
+fn notebook_command_value(alloc: Global, id: &str, cells: &[NewCell]) -> Result<Value, NoMemory>
+    ensures data { IfOk result (λ v. view v ≡ notebook_command_data id.now cells.now) }
+    ensures whole { IfOk result (λ v. has_float (view v) ≡ false) }
+    ensures deep { IfOk result (λ v. depth (view v) ≤ 3) }
+{
+    let cells = cell_values(alloc, cells)?;
+    Ok(json!(in alloc; {"cells": cells, "do": "notebook", "id": id})?)
+}
+
+fn tick_value(alloc: Global) -> Result<Value, NoMemory>
+    ensures data { IfOk result (λ v. view v ≡ tick_data) }
+    ensures whole { IfOk result (λ v. has_float (view v) ≡ false) }
+    ensures deep { IfOk result (λ v. depth (view v) ≤ 1) }
+{
+    Ok(json!(in alloc; {"do": "tick"})?)
+}
+
+fn define_value(
+    alloc: Global,
+    notebook: &str,
+    cell: &NewCell,
+    place: Option<u32>,
+) -> Result<Value, NoMemory>
+    ensures data { IfOk result (λ v. view v ≡ define_data notebook.now cell.now place) }
+    ensures whole { IfOk result (λ v. has_float (view v) ≡ false) }
+    ensures deep { IfOk result (λ v. depth (view v) ≤ 1) }
+{
+    match place {
+        Some(place) => place_value(alloc, notebook, cell, place),
+        None => text_value(alloc, "define", notebook, cell),
+    }
+}
+
+fn command_value(alloc: Global, command: &Command) -> Result<Value, NoMemory>
+    ensures data { IfOk result (λ v. view v ≡ command_data command.now) }
+    ensures whole { IfOk result (λ v. has_float (view v) ≡ false) }
+    ensures deep { IfOk result (λ v. depth (view v) ≤ input_nesting command.now + 3) }
+{
+    match command {
+        Command::Notebook { id, cells } => {
+            notebook_command_value(alloc, id.as_str(), cells.as_slice())
+        }
+        Command::Define {
+            notebook,
+            cell,
+            place,
+        } => define_value(alloc, notebook.as_str(), cell, *place),
+        Command::Redefine { notebook, cell } => {
+            text_value(alloc, "redefine", notebook.as_str(), cell)
+        }
+        Command::Delete { notebook, cell } => {
+            cell_command_value(alloc, "delete", notebook.as_str(), cell.as_str())
+        }
+        Command::Input {
+            notebook,
+            cell,
+            value,
+        } => input_value(alloc, notebook.as_str(), cell.as_str(), value),
+        Command::Observe { notebook, cell } => {
+            cell_command_value(alloc, "observe", notebook.as_str(), cell.as_str())
+        }
+        Command::Unobserve { notebook, cell } => {
+            cell_command_value(alloc, "unobserve", notebook.as_str(), cell.as_str())
+        }
+        Command::Tick => tick_value(alloc),
+    }
+}
+
+/// The line of a command: JSON with no space, the keys of each object in byte order. In a value
+/// `undefined` is written as `null`, and U+FFFD stands for a surrogate without a partner.
+///
+/// # Errors
+/// `NoMemory` where an allocation is refused.
+pub fn command_text(alloc: Global, command: &Command) -> Result<Text, NoMemory>
+    // It is this text.
+    ensures text { IfOk result (λ text. text ≡ text_of_command command.now) }
+    // A command whose fields have their forms is read back from it.
+    ensures reads_back { IfOk result (λ text. IsTrue (has_forms command.now) → command_of_line text ≡ Ok command.now) }
+{
+    let value = command_value(alloc, command)?;
+    Ok(Text::from_string(value.to_string(alloc)?))
+}
+
+/// The line of a bundle of one notebook, the main one: JSON with no space, the keys of each object
+/// in byte order.
+///
+/// # Errors
+/// `NoMemory` where an allocation is refused.
+pub fn bundle_text(alloc: Global, main: &Text, cells: &List<NewCell>) -> Result<Text, NoMemory>
+    // It is this text.
+    ensures text { IfOk result (λ text. text ≡ text_of_bundle main.now cells.now) }
+    // Where the ids have their forms, the bundle is read back from it.
+    ensures reads_back { IfOk result (λ text. IsTrue (is_notebook_id main.now && have_ids cells.now) → bundle_of_line text ≡ Ok (one_notebook main.now cells.now)) }
+{
+    let value = bundle_value(alloc, main.as_str(), cells.as_slice())?;
+    Ok(Text::from_string(value.to_string(alloc)?))
 }

@@ -47,11 +47,7 @@ fn is_pair(high: u16, low: u16) -> bool
 fn unit_at(units: &[u16], place: usize) -> u16
     ensures { result ≡ slice_index units.now place }
 {
-    if place < units.len() {
-        units[place]
-    } else {
-        0
-    }
+    if place < units.len() { units[place] } else { 0 }
 }
 
 /// The character that stands at a place, U+FFFD for a surrogate without a partner, and the place

@@ -1,4 +1,4 @@
-use Rattle.std.proofs.Common.{◌≡◌, ◌≤◌, ◌∷◌, ◌++◌, [], arith, sym, ◌∙◌, map}
+use Rattle.std.proofs.Common.{◌≡◌, ◌∷◌, ◌++◌, [], arith, sym, ◌∙◌}
 use Rattle.serde_json.specs.View.{view, members_view}
 use Rattle.ob_base.specs.PlainData.{nesting, prop_nesting}
 use Rattle.ob_script.specs.Texts.{plain_data}
@@ -20,7 +20,7 @@ pub prop_values-loop-prop-preserved : goal.prop_values-loop-prop-preserved
 prop_values-loop-prop-preserved t c =
     let g = greatest_drop prop_nesting c.args.props.now c.loop-prop.prop-index c.prop-item.result (omega arith) c.prop-item.is in (
       rw (c.in_ok-put.ensures.ok, c.as_str.ensures.value, c.in_ok-key.ensures, c.as_slice.ensures, c.in_ok-value.ensures.data)
-      (sym (put_all_more (members_view c.loop-prop.members.entries) c.args.props.now c.loop-prop.prop-index c.prop-item.result (omega arith) c.prop-item.is) ∙ c.loop-prop.invariant.0),
+          (sym (put_all_more (members_view c.loop-prop.members.entries) c.args.props.now c.loop-prop.prop-index c.prop-item.result (omega arith) c.prop-item.is) ∙ c.loop-prop.invariant.0),
       rw (c.in_ok-put.ensures.ok) (whole_put c.as_str.result.now (view c.in_ok-value.value) (members_view c.loop-prop.members.entries) c.in_ok-value.ensures.whole c.loop-prop.invariant.1),
       rw (c.in_ok-put.ensures.ok) (deep_put c.as_str.result.now (view c.in_ok-value.value) (members_view c.loop-prop.members.entries) _ (omega (arith, g.0, c.in_ok-value.ensures.deep, c.loop-prop.invariant.3, prop_nesting-is c.prop-item.result)) c.loop-prop.invariant.2),
       omega (arith, g.1, c.loop-prop.invariant.3),

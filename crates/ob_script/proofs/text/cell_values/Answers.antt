@@ -1,8 +1,6 @@
-use Rattle.std.proofs.Common.{◌≡◌, ◌∷◌, ◌++◌, [], refl, sym, ap, ◌∙◌, arith, false}
-use Rattle.serde_json.specs.Data.{array}
-use Rattle.serde_json.specs.View.{view, items_of}
+use Rattle.std.proofs.Common.{◌≡◌, ◌∷◌, ◌++◌, [], refl, arith, false}
+use Rattle.serde_json.specs.View.{view}
 use Rattle.serde_json.specs.Written.{has_float}
-use Rattle.serde_json.proofs.Views.{view-Array}
 use Rattle.ob_script.specs.Texts.{cell_data}
 use Rattle.ob_script.proofs.Written.{whole_push, deep_push, map_push}
 use Rattle.ob_script.proofs.text.cell_values.Goals as goal
