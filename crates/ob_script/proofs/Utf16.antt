@@ -1,10 +1,18 @@
 -- The characters of UTF-16 code units, one after another.
-use Rattle.std.proofs.Common.{◌≡◌, ℕ, zero, suc, ◌<◌, ◌≤◌, ◌∷◌, [], ◌++◌, List, Bool, true, false, true≢false, drop, length, get_or, refl, sym, ap, ◌∙◌, arith}
+use Rattle.std.proofs.Common.{◌+◌, ◌-◌, ◌/◌, ◌%◌, ◌⊎◌, inl, inr, map, flat_map, Some, ◌≡◌, ℕ, zero, suc, ◌<◌, ◌≤◌, ◌∷◌, [], ◌++◌, List, Bool, true, false, true≢false, drop, length, get_or, refl, sym, ap, ◌∙◌, arith}
 use Rattle.std.proofs.lemmas.List.{append-nil}
 use Rattle.std.proofs.Math.ListN.{drop_of_length-le}
 use Rattle.std.specs.Prelude.{◌&&◌, unwrap_or}
-use Rattle.std.specs.Str.{encode_utf8_all}
+use Rattle.std.proofs.lemmas.Bool.{cases_lt}
+use Rattle.std.proofs.lemmas.Slice.Eq.{bytes_eq-Decides}
+use Rattle.std.proofs.lemmas.Str.{chars-encodes, utf16_chars-nil, utf16_chars_lone, utf16_chars_pair}
+use Rattle.std.proofs.str.Utf16.{one_unit, two_units, lone_unit_char_low, lone_unit_char_high}
+use Rattle.std.specs.Char.Escape.{encode_utf16}
+use Rattle.std.specs.Str.{encode_utf8_all, chars, IsUtf8}
+use lib.Utf8.{scalar, scalars, scalar_cases}
 use Rattle.std.specs.Char.Utf16.{utf16_chars, utf16_lossy_chars, lone_unit_char, surrogate_pair_char, is_high_surrogate, is_low_surrogate}
+use Rattle.ob_script.specs.Forms.{is_text}
+use Rattle.ob_script.specs.Inputs.{utf16}
 use Rattle.ob_script.specs.Texts.{utf8}
 
 no_pair : (b : Bool) → (b && false) ≡ true → ⊥
@@ -46,3 +54,57 @@ pub lossy_end : (text units : List ℕ) (i : ℕ) → length units ≤ i
 unfolding utf8
 lossy_end text units i l e =
     sym (append-nil text) ∙ (ap (λ (bs : List ℕ). text ++ bs) (sym (none_left (drop i units) (drop_of_length-le units l))) ∙ e)
+
+-- ---- the units of a text, and back
+
+split : (a b : Bool) → (a && b) ≡ true → (a ≡ true) × (b ≡ true)
+split true true h = (refl, refl)
+split true false h = (refl, h)
+split false b h = absurd (true≢false (sym h))
+
+one : (c : ℕ) (us : List ℕ) → c < 0x1_0000 → (c < 0xD800) ⊎ (0xE000 ≤ c) → utf16_chars (encode_utf16 c ++ us) ≡ Some c ∷ utf16_chars us
+one c us l (inl low) =
+    rw (one_unit c l, utf16_chars_lone c us (λ p. absurd (omega (arith, p.0)))) (ap (λ o. o ∷ utf16_chars us) (lone_unit_char_low c low))
+one c us l (inr high) =
+    rw (one_unit c l, utf16_chars_lone c us (λ p. absurd (omega (arith, p.1)))) (ap (λ o. o ∷ utf16_chars us) (lone_unit_char_high c high))
+
+two : (c : ℕ) (us : List ℕ) → 0x1_0000 ≤ c → c < 0x11_0000 → utf16_chars (encode_utf16 c ++ us) ≡ Some c ∷ utf16_chars us
+two c us l h =
+    let whole : surrogate_pair_char (0xD800 + (c - 0x1_0000) / 0x400) (0xDC00 + (c - 0x1_0000) % 0x400) ≡ c = omega arith in
+    rw (two_units c l)
+    (utf16_chars_pair (0xD800 + (c - 0x1_0000) / 0x400) (0xDC00 + (c - 0x1_0000) % 0x400) us (omega arith, omega arith, omega arith, omega arith)
+    ∙ ap (λ d. Some d ∷ utf16_chars us) whole)
+
+outside : (c : ℕ) → (c < 0xD800) ⊎ ((0xE000 ≤ c) × (c < 0x11_0000)) → (c < 0xD800) ⊎ (0xE000 ≤ c)
+outside c (inl h) = inl h
+outside c (inr h) = inr h.0
+
+within : (c : ℕ) → (c < 0xD800) ⊎ ((0xE000 ≤ c) × (c < 0x11_0000)) → c < 0x11_0000
+within c (inl h) = omega arith
+within c (inr h) = h.1
+
+turn : (c : ℕ) (us : List ℕ) → scalar c ≡ true → (c < 0x1_0000) ⊎ (0x1_0000 ≤ c) → utf16_chars (encode_utf16 c ++ us) ≡ Some c ∷ utf16_chars us
+turn c us s (inl l) = one c us l (outside c (scalar_cases c s))
+turn c us s (inr l) = two c us l (within c (scalar_cases c s))
+
+chars_back : (cs : List ℕ) → scalars cs ≡ true → utf16_chars (flat_map encode_utf16 cs) ≡ map Some cs
+chars_back [] h = utf16_chars-nil
+chars_back (c ∷ cs) h =
+    let p = split (scalar c) (scalars cs) h in
+    turn c (flat_map encode_utf16 cs) p.0 (cases_lt c 0x1_0000) ∙ ap (λ os. Some c ∷ os) (chars_back cs p.1)
+
+all_there : (cs : List ℕ) → map (λ o. unwrap_or o 0xFFFD) (map Some cs) ≡ cs
+all_there [] = refl
+all_there (c ∷ cs) = ap (λ ds. c ∷ ds) (all_there cs)
+
+pub utf8_utf16 : (text : List ℕ) → IsUtf8 text → utf8 (utf16 text) ≡ text
+unfolding utf8 utf16
+utf8_utf16 text u =
+    let k : chars text ≡ u.0 = ap chars (sym u.1.1) ∙ chars-encodes u.0 u.1.0 in
+    rw (k, chars_back u.0 u.1.0, all_there u.0) u.1.1
+
+pub same_text : (units : List ℕ) → is_text units ≡ true → utf16 (utf8 units) ≡ units
+same_text units h = (bytes_eq-Decides (utf16 (utf8 units)) units).0 h
+
+pub text_of_utf16 : (text : List ℕ) → IsUtf8 text → is_text (utf16 text) ≡ true
+text_of_utf16 text u = (bytes_eq-Decides (utf16 (utf8 (utf16 text))) (utf16 text)).1 (ap utf16 (utf8_utf16 text u))

@@ -6,4 +6,5 @@ pub mod Gives
 pub mod Ids
 pub mod Inputs
 pub mod Json
+pub mod Returns
 pub mod Texts

@@ -1,4 +1,4 @@
-ghost use Rattle.std.specs.Prelude.{◌≡◌, ◌+◌, ◌≤◌, ◌&&◌, IsTrue, IfOk, false, map, string_bytes};
+ghost use Rattle.std.specs.Prelude.{◌≡◌, ◌+◌, ◌≤◌, ◌&&◌, IsTrue, IfOk, OnOk, false, map, string_bytes};
 ghost use Rattle.serde_json.specs.Data.{no_members, depth, items_depth, members_depth};
 ghost use Rattle.serde_json.specs.Find.{of_integer};
 ghost use Rattle.serde_json.specs.View.{view, items_of, items_view, members_view};
@@ -8,6 +8,7 @@ ghost use Rattle.ob_script.specs.Bundles.{bundle_of_line, one_notebook};
 ghost use Rattle.ob_script.specs.Commands.{command_of_line};
 ghost use Rattle.ob_script.specs.Forms.{has_forms, have_ids};
 ghost use Rattle.ob_script.specs.Ids.{is_notebook_id};
+ghost use Rattle.ob_script.specs.Returns.{IsBack, AreBack, EachBack, InputIsBack};
 ghost use Rattle.ob_script.specs.Texts.{plain_data, prop_data, put_all, cell_data, cells_data, command_data, notebook_data, bundle_data, text_data, place_data, cell_command_data, input_data, define_data, notebook_command_data, tick_data, input_nesting, text_of_command, text_of_bundle};
 
 use crate::units::text_of_units;
@@ -21,6 +22,7 @@ fn plain_value(alloc: Global, plain: &Plain) -> Result<Value, NoMemory>
     ensures data { IfOk result (λ v. view v ≡ plain_data plain.now) }
     ensures whole { IfOk result (λ v. has_float (view v) ≡ false) }
     ensures deep { IfOk result (λ v. depth (view v) ≤ nesting plain.now) }
+    ensures back { OnOk result (IsBack plain.now) }
 {
     match plain {
         Plain::Undefined | Plain::Null => Ok(Value::Null),
@@ -38,6 +40,7 @@ fn plain_values(alloc: Global, items: &[Plain]) -> Result<Vec<Value>, NoMemory>
     ensures data { IfOk result (λ values. items_view values.items ≡ items_of (map plain_data items.now)) }
     ensures whole { IfOk result (λ values. items_have_float (items_view values.items) ≡ false) }
     ensures deep { IfOk result (λ values. items_depth (items_view values.items) ≤ greatest (map nesting items.now)) }
+    ensures back { OnOk result (AreBack items.now) }
 {
     let mut values = Vec::with_capacity(alloc, items.len())?;
     for item in items {
@@ -52,6 +55,7 @@ fn prop_values(alloc: Global, props: &[PlainProp]) -> Result<Map<String, Value>,
     ensures data { IfOk result (λ members. members_view members.entries ≡ put_all no_members (map prop_data props.now)) }
     ensures whole { IfOk result (λ members. members_have_float (members_view members.entries) ≡ false) }
     ensures deep { IfOk result (λ members. members_depth (members_view members.entries) ≤ greatest (map prop_nesting props.now)) }
+    ensures back { OnOk result (EachBack props.now) }
 {
     let mut members = Map::new(alloc);
     for prop in props {
@@ -138,6 +142,7 @@ fn input_value(alloc: Global, notebook: &str, cell: &str, value: &Plain) -> Resu
     ensures data { IfOk result (λ v. view v ≡ input_data notebook.now cell.now value.now) }
     ensures whole { IfOk result (λ v. has_float (view v) ≡ false) }
     ensures deep { IfOk result (λ v. depth (view v) ≤ nesting value.now + 1) }
+    ensures back { OnOk result (IsBack value.now) }
 {
     let value = plain_value(alloc, value)?;
     Ok(json!(in alloc; {"cell": cell, "do": "input", "notebook": notebook, "value": value})?)
@@ -180,6 +185,7 @@ fn command_value(alloc: Global, command: &Command) -> Result<Value, NoMemory>
     ensures data { IfOk result (λ v. view v ≡ command_data command.now) }
     ensures whole { IfOk result (λ v. has_float (view v) ≡ false) }
     ensures deep { IfOk result (λ v. depth (view v) ≤ input_nesting command.now + 3) }
+    ensures back { OnOk result (InputIsBack command.now) }
 {
     match command {
         Command::Notebook { id, cells } => {
