@@ -18,6 +18,9 @@ pub readable_push : {X : Type 0} (f : X → Bool) (xs : List X) (x : X) → are_
 readable_push f xs x h k =
     rw (map-append f xs (x ∷ []), list_all-append (λ b. b) (map f xs) (f x ∷ []), h, k) refl
 
+pub all_push : {X : Type 0} (f : X → Bool) (xs : List X) (x : X) → list_all f xs ≡ true → f x ≡ true → list_all f (xs ++ x ∷ []) ≡ true
+all_push f xs x h k = rw (list_all-append f xs (x ∷ []), h, k) refl
+
 pub readable_prop-is : (p : PlainProp) → readable_prop p ≡ (utf8 p.key, is_text p.key && is_readable p.value)
 readable_prop-is p = search (rules, the_lemmas)
 

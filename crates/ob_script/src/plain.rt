@@ -4,7 +4,7 @@ ghost use Rattle.serde_json.specs.View.{view, number_view, items_view, members_v
 ghost use Rattle.ob_base.specs.PlainData.{are_all};
 ghost use Rattle.ob_script.specs.Forms.{is_text, is_readable, is_object, readable_prop};
 ghost use Rattle.ob_script.specs.Gives.{Gives};
-ghost use Rattle.ob_script.specs.Inputs.{utf16, integer_of, plain_of, plains_of, props_of, value_field};
+ghost use Rattle.ob_script.specs.Inputs.{utf16, integer_of, plain_of, plains_of, props_of, value_field, is_within_limits};
 ghost use Rattle.ob_script.specs.Texts.{utf8};
 
 use crate::ReadError;
@@ -102,7 +102,9 @@ fn props_of(alloc: Global, members: &Map<String, Value>) -> Result<List<PlainPro
 /// The field `value`: plain data that is small enough.
 #[tactic(auto, unfolding(crate::specs::Inputs::within_limits, crate::specs::Inputs::value_field))]
 pub fn value_field(alloc: Global, value: &Value) -> Result<Plain, ReadError>
-    ensures { Gives result (value_field (view value.now)) }
+    ensures reads { Gives result (value_field (view value.now)) }
+    ensures readable { IfOk result (λ plain. is_readable plain ≡ true) }
+    ensures limits { IfOk result (λ plain. is_within_limits plain ≡ true) }
 {
     let Some(found) = value.get("value") else {
         return bad_shape(alloc, "value");
