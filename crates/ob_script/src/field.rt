@@ -1,4 +1,4 @@
-ghost use Rattle.std.specs.Prelude.{◌≡◌, true, IfOk, codes, option_map};
+ghost use Rattle.std.specs.Prelude.{◌≡◌, true, IfOk, codes};
 ghost use Rattle.serde_json.specs.Find.{as_str, as_array};
 ghost use Rattle.serde_json.specs.View.{view, items_view};
 ghost use Rattle.ob_base.specs.declared.cause.Cause.TheVariants.{BadShape as bad_shape_of};

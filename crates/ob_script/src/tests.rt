@@ -1,5 +1,5 @@
-use crate::{ReadError, read_bundle, read_command};
-use ob_base::{Cause, Command, Plain};
+use crate::{ReadError, bundle_text, command_text, read_bundle, read_command};
+use ob_base::{Cause, Command, List, NewCell, Plain, Text};
 use std::alloc::{AllocError, Global};
 use std::test::Fail;
 
@@ -383,4 +383,59 @@ fn an_input_has_its_properties_in_order(rt: HostRuntime) {
     assert!(rt; matches!(first.value, Plain::Int(-6)));
     assert_eq!(rt; second.key.as_slice(), [0xffffu16].as_slice());
     assert_eq!(rt; third.key.as_slice(), [0xd83du16, 0xde00].as_slice());
+}
+
+fn is_rewritten(alloc: Global, line: &str, want: &str) -> bool {
+    match read_command(alloc, line.as_bytes()) {
+        Ok(command) => match command_text(alloc, &command) {
+            Ok(text) => text.as_str() == want,
+            Err(_) => false,
+        },
+        Err(_) => false,
+    }
+}
+
+#[test]
+fn commands_are_written_with_their_keys_in_order(rt: HostRuntime) {
+    for (line, want) in [
+        ("{ \"do\": \"tick\" }", "{\"do\":\"tick\"}"),
+        (
+            "{\"do\":\"unobserve\",\"notebook\":\"m\",\"cell\":\"c\"}",
+            "{\"cell\":\"c\",\"do\":\"unobserve\",\"notebook\":\"m\"}",
+        ),
+        (
+            "{\"do\":\"define\",\"notebook\":\"m\",\"cell\":\"c\",\"text\":\"\\u0061\\n\",\"place\":0}",
+            "{\"cell\":\"c\",\"do\":\"define\",\"notebook\":\"m\",\"place\":0,\"text\":\"a\\n\"}",
+        ),
+        (
+            "{\"do\":\"notebook\",\"id\":\"n\",\"cells\":[{\"text\":\"1\",\"id\":\"c\"}]}",
+            "{\"cells\":[{\"id\":\"c\",\"text\":\"1\"}],\"do\":\"notebook\",\"id\":\"n\"}",
+        ),
+        (
+            "{\"do\":\"input\",\"notebook\":\"m\",\"cell\":\"c\",\"value\":{\"b\":[-1,true],\"a\":\"\\ud83d\\ude00\"}}",
+            "{\"cell\":\"c\",\"do\":\"input\",\"notebook\":\"m\",\"value\":{\"a\":\"\u{1f600}\",\"b\":[-1,true]}}",
+        ),
+    ] {
+        assert!(rt; is_rewritten(rt.alloc(), line, want), "{line}");
+    }
+}
+
+fn text(alloc: Global, text: &str) -> Result<Text, AllocError> {
+    Ok(Text::from_string(String::from_str(alloc, text)?))
+}
+
+#[test]
+fn a_bundle_is_written_with_its_keys_in_order(rt: HostRuntime) -> Result<(), Fail> {
+    let alloc = rt.alloc();
+    let mut cells = List::new(alloc);
+    cells.push(NewCell {
+        id: text(alloc, "c")?,
+        text: text(alloc, "c = 1")?,
+    })?;
+    let line = bundle_text(alloc, &text(alloc, "m")?, &cells)?;
+    assert_eq!(rt;
+        line.as_str(),
+        "{\"main\":\"m\",\"notebooks\":[{\"cells\":[{\"id\":\"c\",\"text\":\"c = 1\"}],\"id\":\"m\"}],\"version\":1}"
+    );
+    Ok(())
 }
