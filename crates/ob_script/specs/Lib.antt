@@ -1,7 +1,10 @@
 pub mod Bundles
 pub mod Commands
 pub mod Fields
+pub mod Forms
 pub mod Gives
 pub mod Ids
 pub mod Inputs
 pub mod Json
+pub mod Returns
+pub mod Texts

@@ -1,9 +1,12 @@
-ghost use Rattle.std.specs.Prelude.{◌≡◌};
+ghost use Rattle.std.specs.Prelude.{◌≡◌, true, IfOk, IsTrue};
+ghost use Rattle.std.specs.List.{list_all};
 ghost use Rattle.serde_json.specs.View.{view, items_view};
 ghost use Rattle.ob_script.specs.Bundles.{bundle_of, bundle_of_line};
 ghost use Rattle.ob_script.specs.Commands.{new_notebook};
 ghost use Rattle.ob_script.specs.Fields.{entries};
+ghost use Rattle.ob_script.specs.Forms.{has_forms};
 ghost use Rattle.ob_script.specs.Gives.{Gives};
+ghost use Rattle.ob_script.specs.Ids.{is_notebook_id};
 
 use crate::ReadError;
 use crate::command::new_notebook;
@@ -22,8 +25,10 @@ pub struct BundleLine {
     pub notebooks: List<Command>,
 }
 
+#[tactic(auto, using(crate::proofs::Readable::all_push))]
 fn new_notebooks(alloc: Global, values: &[Value]) -> Result<List<Command>, ReadError>
-    ensures { Gives result (entries new_notebook (items_view values.now)) }
+    ensures reads { Gives result (entries new_notebook (items_view values.now)) }
+    ensures forms { IfOk result (λ notebooks. list_all has_forms notebooks ≡ true) }
 {
     let mut notebooks = List::new(alloc);
     for value in values {
@@ -34,7 +39,9 @@ fn new_notebooks(alloc: Global, values: &[Value]) -> Result<List<Command>, ReadE
 
 #[tactic(auto, unfolding(crate::specs::Bundles::bundle_of))]
 fn bundle_of(alloc: Global, value: &Value) -> Result<BundleLine, ReadError>
-    ensures { Gives result (bundle_of (view value.now)) }
+    ensures reads { Gives result (bundle_of (view value.now)) }
+    ensures main { IfOk result (λ bundle. is_notebook_id bundle.main ≡ true) }
+    ensures forms { IfOk result (λ bundle. list_all has_forms bundle.notebooks ≡ true) }
 {
     let _version = version_field(alloc, value)?;
     let main = notebook_field(alloc, value, "main")?;
@@ -49,7 +56,11 @@ fn bundle_of(alloc: Global, value: &Value) -> Result<BundleLine, ReadError>
 /// `Refused` with the line's first fault of form; `NoMemory` where an allocation is refused.
 #[tactic(auto, unfolding(crate::specs::Bundles::bundle_of_line))]
 pub fn read_bundle(alloc: Global, line: &[u8]) -> Result<BundleLine, ReadError>
-    ensures { Gives result (bundle_of_line line.now) }
+    // It is what the line reads as, or the line's first fault of form.
+    ensures reads { Gives result (bundle_of_line line.now) }
+    // The ids have their forms.
+    ensures main { IfOk result (λ bundle. IsTrue (is_notebook_id bundle.main)) }
+    ensures forms { IfOk result (λ bundle. IsTrue (list_all has_forms bundle.notebooks)) }
 {
     match read_json(alloc, line) {
         Ok(value) => bundle_of(alloc, &value),

@@ -1,8 +1,10 @@
-ghost use Rattle.std.specs.Prelude.{◌≡◌};
+ghost use Rattle.std.specs.Prelude.{◌≡◌, true, IfOk, IsTrue};
 ghost use Rattle.serde_json.specs.View.{view, items_view};
 ghost use Rattle.ob_script.specs.Commands.{new_cell, new_notebook, fields, command_of, command_of_line};
 ghost use Rattle.ob_script.specs.Fields.{entries};
+ghost use Rattle.ob_script.specs.Forms.{has_forms, have_ids};
 ghost use Rattle.ob_script.specs.Gives.{Gives};
+ghost use Rattle.ob_script.specs.Ids.{is_cell_id};
 
 use crate::ReadError;
 use crate::field::{bad_shape, cell_field, items_field, notebook_field, place_field, text_field};
@@ -15,15 +17,18 @@ use std::alloc::Global;
 
 #[tactic(auto, unfolding(crate::specs::Commands::new_cell))]
 fn new_cell(alloc: Global, value: &Value) -> Result<NewCell, ReadError>
-    ensures { Gives result (new_cell (view value.now)) }
+    ensures reads { Gives result (new_cell (view value.now)) }
+    ensures form { IfOk result (λ cell. is_cell_id cell.id ≡ true) }
 {
     let id = cell_field(alloc, value, "id")?;
     let text = text_field(alloc, value, "text")?;
     Ok(NewCell { id, text })
 }
 
+#[tactic(auto, using(crate::proofs::Readable::all_push))]
 fn new_cells(alloc: Global, values: &[Value]) -> Result<List<NewCell>, ReadError>
-    ensures { Gives result (entries new_cell (items_view values.now)) }
+    ensures reads { Gives result (entries new_cell (items_view values.now)) }
+    ensures forms { IfOk result (λ cells. have_ids cells ≡ true) }
 {
     let mut cells = List::new(alloc);
     for value in values {
@@ -35,7 +40,8 @@ fn new_cells(alloc: Global, values: &[Value]) -> Result<List<NewCell>, ReadError
 /// The notebook that a value adds.
 #[tactic(auto, unfolding(crate::specs::Commands::new_notebook))]
 pub fn new_notebook(alloc: Global, value: &Value) -> Result<Command, ReadError>
-    ensures { Gives result (new_notebook (view value.now)) }
+    ensures reads { Gives result (new_notebook (view value.now)) }
+    ensures forms { IfOk result (λ command. has_forms command ≡ true) }
 {
     let id = notebook_field(alloc, value, "id")?;
     let items = items_field(alloc, value, "cells")?;
@@ -45,7 +51,8 @@ pub fn new_notebook(alloc: Global, value: &Value) -> Result<Command, ReadError>
 
 #[tactic(auto, unfolding(crate::specs::Commands::fields))]
 fn new_place(alloc: Global, value: &Value) -> Result<Command, ReadError>
-    ensures { Gives result (fields Word.Define (view value.now)) }
+    ensures reads { Gives result (fields Word.Define (view value.now)) }
+    ensures forms { IfOk result (λ command. has_forms command ≡ true) }
 {
     let notebook = notebook_field(alloc, value, "notebook")?;
     let id = cell_field(alloc, value, "cell")?;
@@ -61,7 +68,8 @@ fn new_place(alloc: Global, value: &Value) -> Result<Command, ReadError>
 
 #[tactic(auto, unfolding(crate::specs::Commands::fields))]
 fn new_text(alloc: Global, value: &Value) -> Result<Command, ReadError>
-    ensures { Gives result (fields Word.Redefine (view value.now)) }
+    ensures reads { Gives result (fields Word.Redefine (view value.now)) }
+    ensures forms { IfOk result (λ command. has_forms command ≡ true) }
 {
     let notebook = notebook_field(alloc, value, "notebook")?;
     let id = cell_field(alloc, value, "cell")?;
@@ -72,7 +80,8 @@ fn new_text(alloc: Global, value: &Value) -> Result<Command, ReadError>
 
 #[tactic(auto, unfolding(crate::specs::Commands::fields))]
 fn fields(alloc: Global, word: Word, value: &Value) -> Result<Command, ReadError>
-    ensures { Gives result (fields word (view value.now)) }
+    ensures reads { Gives result (fields word (view value.now)) }
+    ensures forms { IfOk result (λ command. has_forms command ≡ true) }
 {
     match word {
         Word::Notebook => new_notebook(alloc, value),
@@ -109,7 +118,8 @@ fn fields(alloc: Global, word: Word, value: &Value) -> Result<Command, ReadError
 
 #[tactic(auto, unfolding(crate::specs::Commands::command_of))]
 fn command_of(alloc: Global, value: &Value) -> Result<Command, ReadError>
-    ensures { Gives result (command_of (view value.now)) }
+    ensures reads { Gives result (command_of (view value.now)) }
+    ensures forms { IfOk result (λ command. has_forms command ≡ true) }
 {
     match text_at(value, "do") {
         Some(text) => match word_of(text) {
@@ -126,7 +136,10 @@ fn command_of(alloc: Global, value: &Value) -> Result<Command, ReadError>
 /// `Refused` with the line's first fault of form; `NoMemory` where an allocation is refused.
 #[tactic(auto, unfolding(crate::specs::Commands::command_of_line))]
 pub fn read_command(alloc: Global, line: &[u8]) -> Result<Command, ReadError>
-    ensures { Gives result (command_of_line line.now) }
+    // It is what the line reads as, or the line's first fault of form.
+    ensures reads { Gives result (command_of_line line.now) }
+    // Its fields have their forms, so that its text reads back.
+    ensures forms { IfOk result (λ command. IsTrue (has_forms command)) }
 {
     match read_json(alloc, line) {
         Ok(value) => command_of(alloc, &value),

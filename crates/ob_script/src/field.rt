@@ -1,9 +1,11 @@
-ghost use Rattle.std.specs.Prelude.{◌≡◌, IfOk, codes, option_map};
+ghost use Rattle.std.specs.Prelude.{◌≡◌, true, IfOk, codes};
 ghost use Rattle.serde_json.specs.Find.{as_str, as_array};
 ghost use Rattle.serde_json.specs.View.{view, items_view};
 ghost use Rattle.ob_base.specs.declared.cause.Cause.TheVariants.{BadShape as bad_shape_of};
 ghost use Rattle.ob_script.specs.Fields.{field, notebook_id, cell_id, version_one, place_field};
+ghost use Rattle.ob_script.specs.Forms.{is_place};
 ghost use Rattle.ob_script.specs.Gives.{Gives, GivesSeen};
+ghost use Rattle.ob_script.specs.Ids.{is_cell_id, is_notebook_id};
 
 use crate::ReadError;
 use crate::id::{is_cell_id, is_notebook_id};
@@ -37,7 +39,8 @@ pub fn text_field(alloc: Global, value: &Value, key: &str) -> Result<Text, ReadE
 
 /// A field that is a notebook's id.
 pub fn notebook_field(alloc: Global, value: &Value, key: &str) -> Result<Text, ReadError>
-    ensures { Gives result (field notebook_id key.now (view value.now)) }
+    ensures reads { Gives result (field notebook_id key.now (view value.now)) }
+    ensures form { IfOk result (λ text. is_notebook_id text ≡ true) }
 {
     match text_at(value, key) {
         Some(text) => {
@@ -53,7 +56,8 @@ pub fn notebook_field(alloc: Global, value: &Value, key: &str) -> Result<Text, R
 
 /// A field that is a cell's id.
 pub fn cell_field(alloc: Global, value: &Value, key: &str) -> Result<Text, ReadError>
-    ensures { Gives result (field cell_id key.now (view value.now)) }
+    ensures reads { Gives result (field cell_id key.now (view value.now)) }
+    ensures form { IfOk result (λ text. is_cell_id text ≡ true) }
 {
     match text_at(value, key) {
         Some(text) => {
@@ -98,7 +102,8 @@ pub fn version_field(alloc: Global, value: &Value) -> Result<u64, ReadError>
 
 /// The field `place`, which may be missing, else a whole number below 2^32.
 pub fn place_field(alloc: Global, value: &Value) -> Result<Option<u32>, ReadError>
-    ensures { Gives result (place_field (view value.now)) }
+    ensures reads { Gives result (place_field (view value.now)) }
+    ensures form { IfOk result (λ place. is_place place ≡ true) }
 {
     match value.get("place") {
         Some(found) => match found.as_u64() {

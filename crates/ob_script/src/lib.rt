@@ -9,8 +9,14 @@ mod json;
 mod limits;
 mod plain;
 mod read_error;
+mod text;
+mod units;
 mod word;
 
 pub use bundle::{BundleLine, read_bundle};
 pub use command::read_command;
 pub use read_error::ReadError;
+pub use text::{bundle_text, command_text};
+
+#[cfg(test)]
+mod tests;

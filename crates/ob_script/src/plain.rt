@@ -1,8 +1,11 @@
-ghost use Rattle.std.specs.Prelude.{◌≡◌, ◌++◌, IfOk, OnOk};
+ghost use Rattle.std.specs.Prelude.{◌≡◌, ◌++◌, true, map, IfOk, OnOk};
 ghost use Rattle.std.specs.Char.Escape.{encode_utf16};
 ghost use Rattle.serde_json.specs.View.{view, number_view, items_view, members_view};
+ghost use Rattle.ob_base.specs.PlainData.{are_all};
+ghost use Rattle.ob_script.specs.Forms.{is_text, is_readable, is_object, readable_prop};
 ghost use Rattle.ob_script.specs.Gives.{Gives};
-ghost use Rattle.ob_script.specs.Inputs.{utf16, integer_of, plain_of, plains_of, props_of, value_field};
+ghost use Rattle.ob_script.specs.Inputs.{utf16, integer_of, plain_of, plains_of, props_of, value_field, is_within_limits};
+ghost use Rattle.ob_script.specs.Texts.{utf8};
 
 use crate::ReadError;
 use crate::field::bad_shape;
@@ -23,7 +26,9 @@ fn push_char(units: &mut Units, c: char) -> Result<(), NoMemory>
 
 /// The UTF-16 code units of a text.
 fn units_of(alloc: Global, text: &str) -> Result<Units, NoMemory>
-    ensures { IfOk result (λ units. units ≡ utf16 text.now) }
+    ensures units { IfOk result (λ units. units ≡ utf16 text.now) }
+    ensures text { IfOk result (λ units. is_text units ≡ true) }
+    ensures bytes { IfOk result (λ units. utf8 units ≡ text.now) }
 {
     let mut units = Units::new(alloc);
     for c in text.chars() {
@@ -34,7 +39,8 @@ fn units_of(alloc: Global, text: &str) -> Result<Units, NoMemory>
 
 #[tactic(auto, unfolding(crate::specs::Inputs::integer_of))]
 fn integer_of(number: &Number) -> Result<Plain, ReadError>
-    ensures { Gives result (integer_of (number_view number.now)) }
+    ensures reads { Gives result (integer_of (number_view number.now)) }
+    ensures readable { IfOk result (λ plain. is_readable plain ≡ true) }
 {
     match number.as_i64() {
         Some(n) => {
@@ -50,8 +56,10 @@ fn integer_of(number: &Number) -> Result<Plain, ReadError>
 
 /// The data of a value, whatever its size.
 #[cycle(plain)]
+#[tactic(auto, using(crate::proofs::Readable::readable_push))]
 fn plain_of(alloc: Global, value: &Value) -> Result<Plain, ReadError>
-    ensures { Gives result (plain_of (view value.now)) }
+    ensures reads { Gives result (plain_of (view value.now)) }
+    ensures readable { IfOk result (λ plain. is_readable plain ≡ true) }
 {
     match value {
         Value::Null => Ok(Plain::Null),
@@ -64,8 +72,10 @@ fn plain_of(alloc: Global, value: &Value) -> Result<Plain, ReadError>
 }
 
 #[cycle(plain)]
+#[tactic(auto, using(crate::proofs::Readable::readable_push))]
 fn plains_of(alloc: Global, values: &Vec<Value>) -> Result<List<Plain>, ReadError>
-    ensures { Gives result (plains_of (items_view values.now.items)) }
+    ensures reads { Gives result (plains_of (items_view values.now.items)) }
+    ensures readable { IfOk result (λ items. are_all (map is_readable items) ≡ true) }
 {
     let mut items = List::new(alloc);
     for value in values {
@@ -75,8 +85,10 @@ fn plains_of(alloc: Global, values: &Vec<Value>) -> Result<List<Plain>, ReadErro
 }
 
 #[cycle(plain)]
+#[tactic(auto, using(crate::proofs::Readable::readable_push))]
 fn props_of(alloc: Global, members: &Map<String, Value>) -> Result<List<PlainProp>, ReadError>
-    ensures { Gives result (props_of (members_view members.now.entries)) }
+    ensures reads { Gives result (props_of (members_view members.now.entries)) }
+    ensures readable { IfOk result (λ props. is_object (map readable_prop props) ≡ true) }
 {
     let mut props = List::new(alloc);
     for (key, member) in members.iter() {
@@ -90,7 +102,9 @@ fn props_of(alloc: Global, members: &Map<String, Value>) -> Result<List<PlainPro
 /// The field `value`: plain data that is small enough.
 #[tactic(auto, unfolding(crate::specs::Inputs::within_limits, crate::specs::Inputs::value_field))]
 pub fn value_field(alloc: Global, value: &Value) -> Result<Plain, ReadError>
-    ensures { Gives result (value_field (view value.now)) }
+    ensures reads { Gives result (value_field (view value.now)) }
+    ensures readable { IfOk result (λ plain. is_readable plain ≡ true) }
+    ensures limits { IfOk result (λ plain. is_within_limits plain ≡ true) }
 {
     let Some(found) = value.get("value") else {
         return bad_shape(alloc, "value");
