@@ -1,2 +1,4 @@
 mod Capped
 mod Folds
+mod Keys
+mod Spacing
