@@ -2,6 +2,8 @@
 #![tactic(auto)]
 
 mod cell;
+mod cell_copy;
+mod copy;
 mod operators;
 mod tree;
 

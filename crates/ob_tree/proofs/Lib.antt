@@ -1,0 +1,4 @@
+mod Capped
+mod Folds
+mod Keys
+mod Spacing
