@@ -14,3 +14,6 @@ pub use ob_tree_types::{
     AssignOp, Boxed, CatchPart, CellTree, ChangeOp, Decl, DeclValue, Expr, FnBody, ForHead,
     Function, ImportSpec, ImportTree, LogicOp, PropNode, SpecForm, Stmt, UpdateOp,
 };
+
+#[cfg(test)]
+mod tests;
