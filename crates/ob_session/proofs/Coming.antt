@@ -1,10 +1,10 @@
 -- The lines of the bytes to come, one at a time.
-use Rattle.std.proofs.Common.{◌≡◌, ◌<◌, ◌≤◌, ℕ, zero, suc, ◌+◌, ◌-◌, List, [], ◌∷◌, length, drop, refl, sym, ap, ◌∙◌, arith, subst}
+use Rattle.std.proofs.Common.{◌≡◌, ◌<◌, ℕ, zero, suc, ◌+◌, List, [], ◌∷◌, length, refl, ap, arith}
 use Rattle.std.proofs.lemmas.List.{length-drop}
 use Rattle.ob_io.specs.declared.next_line.NextLine.{NextLine}
 use Rattle.ob_io.specs.declared.next_line.NextLine.TheVariants as coming
 use Rattle.ob_io.specs.Lines.{next_of}
-use Rattle.ob_session.specs.Trace.{line_limit, next_from, on_line, behind, left_behind, lines_up_to, end_up_to, lines, end}
+use Rattle.ob_session.specs.Trace.{next_from, behind, left_behind, lines_up_to, end_up_to, lines, end}
 
 -- where a line comes there is a byte
 line_some : (left : ℕ) (b line : List ℕ) → next_from left b ≡ coming.Line line → 0 < length b

@@ -1,9 +1,9 @@
 -- From the end of a part of a session to the end of the whole.
-use Rattle.std.proofs.Common.{◌≡◌, ◌≤◌, ◌<◌, ℕ, suc, ◌+◌, min, List, [], ◌++◌, ◌∷◌, length, take, drop, None, Some, refl, sym, ap, ◌∙◌, append_assoc, arith, subst}
+use Rattle.std.proofs.Common.{◌≡◌, ◌≤◌, ℕ, suc, ◌+◌, min, List, [], ◌++◌, ◌∷◌, length, take, None, Some, refl, sym, ap, ◌∙◌, append_assoc, arith, subst}
 use Rattle.std.specs.declared.option.Option.{Option}
 use Rattle.std.specs.Prelude.{IfSome}
 use Rattle.std.specs.List.{flat_map}
-use Rattle.std.specs.Io.KnownBytes.{Appends, Keeps, IsAtEnd}
+use Rattle.std.specs.Io.KnownBytes.{Appends, Consumes}
 use Rattle.std.proofs.lemmas.List.{append-nil, take_min, take-append-le}
 use Rattle.std.proofs.Math.Seq.{take-append-add}
 use Rattle.ob_io.specs.Outside.{AppendsFront}
@@ -11,7 +11,7 @@ use Rattle.ob_session.specs.declared.exit.Exit.{Exit}
 use Rattle.ob_session.specs.declared.exit.Exit.TheVariants as exit
 use Rattle.ob_session.specs.declared.reply.Reply.{Reply}
 use Rattle.ob_session.specs.Show.{show}
-use Rattle.ob_session.specs.Ends.{AllEnds, AppendsSome, EndsAs}
+use Rattle.ob_session.specs.Ends.{AllEnds, AppendsPart, AppendsSome, EndsAs}
 
 pub Appends-none : (a : Option (List ℕ)) → Appends a a []
 Appends-none None = tt
@@ -43,21 +43,28 @@ IsFollowed (Some i) (Some b) p = p i b
 abbrev pub SameEnd : (List ℕ → List Reply) → (List ℕ → List Reply) → (List ℕ → Exit) → (List ℕ → Exit) → List ℕ → List ℕ → Type 0
 SameEnd all all' finish finish' i b = (all i ≡ all' b) × (finish i ≡ finish' b)
 
-module _ (all all' : List ℕ → List Reply) (finish finish' : List ℕ → Exit) (rest old new : Option (List ℕ)) where
+-- what was taken of one input is more that was taken of another, with the same replies
+abbrev pub MovesTaken : (List ℕ → List Reply) → (List ℕ → List Reply) → Option (List ℕ) → List ℕ → List ℕ → Type 0
+MovesTaken part part' rest i b = (t : List ℕ) → Consumes (Some b) rest t → (more : List ℕ) × Consumes (Some i) rest more × (part more ≡ part' t)
+
+module _ (all all' part part' : List ℕ → List Reply) (finish finish' : List ℕ → Exit) (rest old new : Option (List ℕ)) where
   as_same : (end : Exit) (i b : List ℕ) → SameEnd all all' finish finish' i b → EndsAs end (Some b) all' finish' old new → EndsAs end (Some i) all finish old new
   as_same end i b s h = (s.1 ∙ h.0, subst (λ r. Appends old new (flat_map show r)) (sym s.0) h.1)
 
-  same_ends : (i b : List ℕ) (end : Exit) → SameEnd all all' finish finish' i b → AllEnds (Some b) rest all' finish' old new end → AllEnds (Some i) rest all finish old new end
-  same_ends i b exit.Done s h = (as_same exit.Done i b s h.0, h.1)
-  same_ends i b exit.BadBundle s h = as_same exit.BadBundle i b s h
-  same_ends i b exit.LineTooLong s h = as_same exit.LineTooLong i b s h
-  same_ends i b exit.InputTooLong s h = as_same exit.InputTooLong i b s h
-  same_ends i b exit.ReadFault s h = subst (AppendsSome old new) (sym s.0) h
-  same_ends i b exit.NoMemory s h = subst (AppendsSome old new) (sym s.0) h
-  same_ends i b exit.WriteFault s h = subst (λ r. AppendsFront old new (flat_map show r)) (sym s.0) h
-  same_ends i b exit.Usage s h = h
+  part_same : (i b : List ℕ) → MovesTaken part part' rest i b → AppendsPart b rest part' old new → AppendsPart i rest part old new
+  part_same i b m (t, c, a) = let more = m t c in (more.0, more.1, subst (λ r. Appends old new (flat_map show r)) (sym more.2) a)
 
-  nothing_known : (input : Option (List ℕ)) (end : Exit) → AllEnds input rest all' finish' old new end → AllEnds None rest all finish old new end
+  same_ends : (i b : List ℕ) (end : Exit) → SameEnd all all' finish finish' i b → (end ≡ exit.ReadFault → MovesTaken part part' rest i b) → AllEnds (Some b) rest all' part' finish' old new end → AllEnds (Some i) rest all part finish old new end
+  same_ends i b exit.Done s m h = (as_same exit.Done i b s h.0, h.1)
+  same_ends i b exit.BadBundle s m h = as_same exit.BadBundle i b s h
+  same_ends i b exit.LineTooLong s m h = as_same exit.LineTooLong i b s h
+  same_ends i b exit.InputTooLong s m h = as_same exit.InputTooLong i b s h
+  same_ends i b exit.ReadFault s m h = part_same i b (m refl) h
+  same_ends i b exit.NoMemory s m h = subst (AppendsSome old new) (sym s.0) h
+  same_ends i b exit.WriteFault s m h = subst (λ r. AppendsFront old new (flat_map show r)) (sym s.0) h
+  same_ends i b exit.Usage s m h = h
+
+  nothing_known : (input : Option (List ℕ)) (end : Exit) → AllEnds input rest all' part' finish' old new end → AllEnds None rest all part finish old new end
   nothing_known input exit.Done h = (tt, tt)
   nothing_known input exit.BadBundle h = tt
   nothing_known input exit.LineTooLong h = tt
@@ -68,12 +75,11 @@ module _ (all all' : List ℕ → List Reply) (finish finish' : List ℕ → Exi
   nothing_known input exit.Usage h = h
 
   -- the end over the bytes to come is the end over those before
-  pub AllEnds-move : (input now : Option (List ℕ)) (end : Exit) → IsFollowed input now (SameEnd all all' finish finish') → AllEnds now rest all' finish' old new end → AllEnds input rest all finish old new end
-  AllEnds-move None now end s h = nothing_known now end h
-  AllEnds-move (Some i) None end s h = absurd s
-  AllEnds-move (Some i) (Some b) end s h = same_ends i b end s h
+  pub AllEnds-move : (i b : List ℕ) (end : Exit) → SameEnd all all' finish finish' i b → (end ≡ exit.ReadFault → MovesTaken part part' rest i b)
+      → AllEnds (Some b) rest all' part' finish' old new end → AllEnds (Some i) rest all part finish old new end
+  AllEnds-move i b end s m h = same_ends i b end s m h
 
-module _ (all : List ℕ → List Reply) (finish : List ℕ → Exit) (rest old mid new : Option (List ℕ)) (r : Reply) (p : Appends old mid (show r)) where
+module _ (all part : List ℕ → List Reply) (finish : List ℕ → Exit) (rest old mid new : Option (List ℕ)) (r : Reply) (p : Appends old mid (show r)) where
   as_after : (end : Exit) (input : Option (List ℕ)) → EndsAs end input all finish mid new → EndsAs end input (λ i. r ∷ all i) finish old new
   as_after end None h = tt
   as_after end (Some i) h = (h.0, Appends-more old mid new (show r) (flat_map show (all i)) p h.1)
@@ -82,17 +88,21 @@ module _ (all : List ℕ → List Reply) (finish : List ℕ → Exit) (rest old 
   some_after None h = tt
   some_after (Some i) h = (suc h.0, Appends-more old mid new (show r) (flat_map show (take h.0 (all i))) p h.1)
 
+  part_after : (input : Option (List ℕ)) → IfSome input (λ i. AppendsPart i rest part mid new) → IfSome input (λ i. AppendsPart i rest (λ t. r ∷ part t) old new)
+  part_after None h = tt
+  part_after (Some i) (t, c, a) = (t, c, Appends-more old mid new (show r) (flat_map show (part t)) p a)
+
   front_after : (input : Option (List ℕ)) → IfSome input (λ i. AppendsFront mid new (flat_map show (all i))) → IfSome input (λ i. AppendsFront old new (flat_map show (r ∷ all i)))
   front_after None h = tt
   front_after (Some i) h = AppendsFront-part old mid new (show r) (flat_map show (all i)) [] (show r ++ flat_map show (all i)) p h (ap (λ t. show r ++ t) (append-nil (flat_map show (all i))))
 
   -- the end behind a reply is the end with it
-  pub AllEnds-after : (input : Option (List ℕ)) (end : Exit) → AllEnds input rest all finish mid new end → AllEnds input rest (λ i. r ∷ all i) finish old new end
+  pub AllEnds-after : (input : Option (List ℕ)) (end : Exit) → AllEnds input rest all part finish mid new end → AllEnds input rest (λ i. r ∷ all i) (λ t. r ∷ part t) finish old new end
   AllEnds-after input exit.Done h = (as_after exit.Done input h.0, h.1)
   AllEnds-after input exit.BadBundle h = as_after exit.BadBundle input h
   AllEnds-after input exit.LineTooLong h = as_after exit.LineTooLong input h
   AllEnds-after input exit.InputTooLong h = as_after exit.InputTooLong input h
-  AllEnds-after input exit.ReadFault h = some_after input h
+  AllEnds-after input exit.ReadFault h = part_after input h
   AllEnds-after input exit.NoMemory h = some_after input h
   AllEnds-after input exit.WriteFault h = front_after input h
   AllEnds-after input exit.Usage h = h

@@ -1,5 +1,6 @@
 pub mod Coming
 pub mod Ending
+pub mod Fed
 pub mod Firsts
 pub mod Looping
 pub mod Marks

@@ -1,6 +1,6 @@
 -- Marks from the last cell to the first.
-use Rattle.std.proofs.Common.{◌≡◌, ◌<◌, ◌≤◌, ◌≢◌, ℕ, zero, suc, ◌+◌, List, [], ◌∷◌, length, drop, map, get_or, set, Bool, true, false, cond, ◌&&◌, ◌||◌, eqb, None, Some, refl, sym, ap, ◌∙◌, arith, add-one, subst, length-set}
-use Rattle.std.specs.Prelude.{slice_get, slice_set, slice_index_or}
+use Rattle.std.proofs.Common.{◌≡◌, ◌<◌, ◌≤◌, ◌≢◌, ℕ, zero, suc, List, [], ◌∷◌, length, drop, map, get_or, set, Bool, true, false, cond, ◌&&◌, ◌||◌, eqb, None, Some, refl, sym, ap, ◌∙◌, arith, add-one, subst, length-set}
+use Rattle.std.specs.Prelude.{slice_get}
 use Rattle.std.specs.declared.option.Option.{Option}
 use Rattle.std.proofs.lemmas.Bool.Decides.{nat_tests}
 use Rattle.std.proofs.lemmas.List.{drop-set-lt, get_or-set_same, get_or-set_other}

@@ -1,25 +1,24 @@
 -- The end of a session at what comes next.
-use Rattle.std.proofs.Common.{◌≡◌, ◌<◌, ◌≤◌, ℕ, suc, ◌+◌, ◌-◌, List, [], ◌∷◌, ◌++◌, length, drop, take, Bool, true, false, leb, eqb, cond, None, Some, refl, sym, ap, ◌∙◌, arith, subst}
+use Rattle.std.proofs.Common.{◌≡◌, ◌≤◌, ℕ, suc, ◌+◌, List, [], ◌∷◌, length, drop, Bool, true, false, leb, eqb, cond, None, Some, refl, sym, ap, ◌∙◌, arith, subst}
 use Rattle.std.specs.Prelude.{IfSome, IsTrue, IsFalse, nat_le}
 use Rattle.std.specs.declared.option.Option.{Option}
 use Rattle.std.specs.List.{flat_map}
-use Rattle.std.specs.Io.KnownBytes.{Appends, Keeps, IsAtEnd}
+use Rattle.std.specs.Io.KnownBytes.{Appends, Keeps}
 use Rattle.std.proofs.lemmas.Bool.Decides.{nat_tests}
-use Rattle.std.proofs.lemmas.List.{append-nil}
 use Rattle.std.proofs.Math.ListN.{drop_of_length-le}
 use Rattle.ob_io.specs.declared.next_line.NextLine.{NextLine}
 use Rattle.ob_io.specs.declared.next_line.NextLine.TheVariants as coming
-use Rattle.ob_io.specs.Lines.{next_of, IsNext}
+use Rattle.ob_io.specs.Lines.{next_of, IsNext, IsWithin}
+use Rattle.ob_session.specs.Step.{IsUnfed}
 use Rattle.ob_io.specs.Outside.{AppendsFront}
 use Rattle.ob_session.specs.declared.exit.Exit.{Exit}
 use Rattle.ob_session.specs.declared.exit.Exit.TheVariants as exit
-use Rattle.ob_session.specs.declared.reply.Reply.{Reply}
 use Rattle.ob_session.specs.declared.world.World.{World}
 use Rattle.ob_session.specs.Answer.{answer, replies}
-use Rattle.ob_session.specs.Ends.{AllEnds, EndsAs, AppendsSome}
+use Rattle.ob_session.specs.Ends.{AllEnds, AppendsSome}
 use Rattle.ob_session.specs.Show.{show}
-use Rattle.ob_session.specs.Stops.{IsStop, IsEnd}
-use Rattle.ob_session.specs.Trace.{line_limit, next_from, lines, end, exit_of}
+use Rattle.ob_session.specs.Stops.{IsStop}
+use Rattle.ob_session.specs.Trace.{line_limit, next_from, lines, end, exit_of, fed_lines}
 use Rattle.ob_session.proofs.Coming.{lines_next, lines_none}
 use Rattle.ob_session.proofs.Ending.{Appends-none, AppendsFront-part}
 
@@ -63,15 +62,15 @@ long_input line e = cc
 
 module _ (w : World) (left : ℕ) (held : Option (List ℕ)) where
   -- at a limit
-  pub line_ends : (b rest : Option (List ℕ)) → IfSome b (λ b. next_from left b ≡ coming.LineTooLong) → AllEnds b rest (λ b. replies w (lines left b)) (λ b. exit_of (end left b)) held held exit.LineTooLong
+  pub line_ends : (b rest : Option (List ℕ)) → IfSome b (λ b. next_from left b ≡ coming.LineTooLong) → AllEnds b rest (λ b. replies w (lines left b)) (λ t. replies w (fed_lines t)) (λ b. exit_of (end left b)) held held exit.LineTooLong
   line_ends None rest e = tt
   line_ends (Some b) rest e = as_next w left b coming.LineTooLong held e long_line
 
-  pub input_ends : (b rest : Option (List ℕ)) → IfSome b (λ b. next_from left b ≡ coming.InputTooLong) → AllEnds b rest (λ b. replies w (lines left b)) (λ b. exit_of (end left b)) held held exit.InputTooLong
+  pub input_ends : (b rest : Option (List ℕ)) → IfSome b (λ b. next_from left b ≡ coming.InputTooLong) → AllEnds b rest (λ b. replies w (lines left b)) (λ t. replies w (fed_lines t)) (λ b. exit_of (end left b)) held held exit.InputTooLong
   input_ends None rest e = tt
   input_ends (Some b) rest e = as_next w left b coming.InputTooLong held e long_input
 
-  at_end : (b : List ℕ) (rest : Option (List ℕ)) → next_from left b ≡ coming.End → Keeps (Some b) rest → AllEnds (Some b) rest (λ b. replies w (lines left b)) (λ b. exit_of (end left b)) held held exit.Done
+  at_end : (b : List ℕ) (rest : Option (List ℕ)) → next_from left b ≡ coming.End → Keeps (Some b) rest → AllEnds (Some b) rest (λ b. replies w (lines left b)) (λ t. replies w (fed_lines t)) (λ b. exit_of (end left b)) held held exit.Done
   at_end b None e k = absurd k
   at_end b (Some r) e k = (as_next w left b coming.End held e no_line, k ∙ none_comes left b e)
 
@@ -81,10 +80,16 @@ module _ (w : World) (left : ℕ) (held : Option (List ℕ)) where
 
   -- with the input
   pub done_ends : (ended : Bool) (b rest : Option (List ℕ)) → (IsFalse ended → IfSome b (λ b. next_from left b ≡ coming.End) × Keeps b rest) → (IsTrue ended → rest ≡ b) → (IsTrue ended → IfSome b (λ b. b ≡ []))
-      → AllEnds b rest (λ b. replies w (lines left b)) (λ b. exit_of (end left b)) held held exit.Done
+      → AllEnds b rest (λ b. replies w (lines left b)) (λ t. replies w (fed_lines t)) (λ b. exit_of (end left b)) held held exit.Done
   done_ends ended None rest first over known = (tt, tt)
   done_ends false (Some b) rest first over known = at_end b rest (first refl).0 (first refl).1
   done_ends true (Some b) rest first over known = at_end b rest (ap (next_from left) (known refl) ∙ nothing left) (Keeps-is (Some b) rest (over refl))
+
+  -- at a failed read, which took nothing
+  pub fault_ends : (b rest : Option (List ℕ)) → Keeps b rest → AllEnds b rest (λ b. replies w (lines left b)) (λ t. replies w (fed_lines t)) (λ b. exit_of (end left b)) held held exit.ReadFault
+  fault_ends None rest k = tt
+  fault_ends (Some b) None k = absurd k
+  fault_ends (Some b) (Some r) k = ([], sym k, Appends-none held)
 
   -- with nothing more
   pub nothing_ends : (b : Option (List ℕ)) → IfSome b (λ b. AppendsSome held held (replies w (lines left b)))
@@ -94,7 +99,7 @@ module _ (w : World) (left : ℕ) (held : Option (List ℕ)) where
 -- at a line whose reply was not written whole
 pub stop_ends : (w : World) (left : ℕ) (held holds : Option (List ℕ)) (b rest : Option (List ℕ)) (line : List ℕ) (e : Exit) → IsStop e → IfSome b (λ b. next_from left b ≡ coming.Line line)
     → (e ≡ exit.WriteFault → AppendsFront held holds (show (answer w line).0)) → (e ≡ exit.NoMemory → holds ≡ held)
-    → AllEnds b rest (λ b. replies w (lines left b)) (λ b. exit_of (end left b)) held holds e
+    → AllEnds b rest (λ b. replies w (lines left b)) (λ t. replies w (fed_lines t)) (λ b. exit_of (end left b)) held holds e
 stop_ends w left held holds None rest line exit.WriteFault s n cut stopped = tt
 stop_ends w left held holds None rest line exit.NoMemory s n cut stopped = tt
 stop_ends w left held holds (Some b) rest line exit.WriteFault s n cut stopped =
@@ -132,3 +137,11 @@ only_line (Some b) left rest line now h = h.0
 pub end_comes : (ended now : Bool) (limit left : ℕ) (b rest : Option (List ℕ)) → limit ≡ line_limit → (IsFalse ended → IsNext limit left b rest now coming.End)
     → IsFalse ended → IfSome b (λ bytes. next_from left bytes ≡ coming.End) × Keeps b rest
 end_comes ended now limit left b rest l next f = let h = rw l at (next f) in (h.0, h.1)
+
+-- a line has no line feed
+pub line_unfed : (ended now : Bool) (limit left : ℕ) (kept line : List ℕ) → IsFalse ended → (IsFalse ended → IsWithin limit left kept now (coming.Line line)) → IsUnfed line
+line_unfed ended now limit left kept line f within = (within f).0
+
+-- the end of the input was met
+pub end_met : (ended now : Bool) (limit left : ℕ) (b rest : Option (List ℕ)) → IsFalse ended → (IsFalse ended → IsNext limit left b rest now coming.End) → IsTrue now
+end_met ended now limit left b rest f next = (next f).2

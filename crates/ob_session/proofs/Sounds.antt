@@ -1,11 +1,11 @@
 -- What holds of every world goes on to hold.
-use Rattle.std.proofs.Common.{◌≡◌, ◌<◌, ◌⊎◌, inl, inr, ℕ, zero, suc, ◌+◌, List, [], ◌∷◌, ◌++◌, length, map, Bool, None, Some, refl, sym, ap, ◌∙◌, arith, subst}
+use Rattle.std.proofs.Common.{◌≡◌, ◌<◌, ◌⊎◌, inl, inr, ℕ, zero, suc, ◌+◌, List, [], ◌∷◌, ◌++◌, length, map, Bool, None, Some, refl, sym, ap, arith, subst}
 use Rattle.std.proofs.lemmas.List.{map-append, length-map}
 use Rattle.std.specs.Prelude.{slice_get, IfSome}
 use Rattle.std.specs.declared.option.Option.{Option}
 use Rattle.ob_session.specs.declared.world.Cell.{Cell}
 use Rattle.ob_session.specs.Inputs.{IsBuiltUp}
-use Rattle.ob_session.specs.Live.{live_from, is_read}
+use Rattle.ob_session.specs.Live.{live_from}
 
 -- there is a flag for each cell
 pub length-live_from : (place : ℕ) (cells : List Cell) (observed : List Bool) → length observed ≡ length cells → length (live_from place cells observed) ≡ length cells

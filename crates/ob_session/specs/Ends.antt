@@ -1,9 +1,9 @@
 -- How a session ends, and what it has appended then (this project).
-use Rattle.std.specs.Prelude.{◌≡◌, ℕ, List, [], ◌∷◌, ◌++◌, Bool, true, false, bytes_eq, codes, IfSome, String, string_bytes, map, take}
+use Rattle.std.specs.Prelude.{◌≡◌, ℕ, List, [], ◌∷◌, ◌++◌, Bool, true, false, bytes_eq, codes, IfSome, Some, String, string_bytes, map, take}
 use Rattle.std.specs.declared.alloc.Global.{Global}
 use Rattle.std.specs.declared.option.Option.{Option}
 use Rattle.std.specs.List.{flat_map}
-use Rattle.std.specs.Io.KnownBytes.{Appends, IsAtEnd}
+use Rattle.std.specs.Io.KnownBytes.{Appends, Consumes, IsAtEnd}
 use Rattle.ob_io.specs.Outside.{AppendsFront}
 use Rattle.ob_session.specs.declared.exit.Exit.{Exit}
 use Rattle.ob_session.specs.declared.exit.Exit.TheVariants as exit
@@ -11,7 +11,7 @@ use Rattle.ob_session.specs.declared.reply.Reply.{Reply}
 use Rattle.ob_session.specs.declared.reply.Reply.TheVariants as reply
 use Rattle.ob_base.specs.declared.cause.Cause.{Cause}
 use Rattle.ob_session.specs.Show.{show, line_end}
-use Rattle.ob_session.specs.Trace.{trace, finish}
+use Rattle.ob_session.specs.Trace.{trace, trace_part, finish}
 
 abbrev pub usage_line : List ℕ
 usage_line = codes "usage: notebook_run run | flatten | make N" ++ line_end
@@ -33,21 +33,25 @@ AppendsSome old new all = (k : ℕ) × Appends old new (flat_map show (take k al
 abbrev pub EndsAs : Exit → Option (List ℕ) → (List ℕ → List Reply) → (List ℕ → Exit) → Option (List ℕ) → Option (List ℕ) → Type 0
 EndsAs end input all finish old new = IfSome input (λ i. (finish i ≡ end) × Appends old new (flat_map show (all i)))
 
--- How a session ends over an input that has these replies and this end: by the bytes that were to come and those that are
--- still to come, and by what the sink held and holds, where these are known.
-abbrev pub AllEnds : Option (List ℕ) → Option (List ℕ) → (List ℕ → List Reply) → (List ℕ → Exit) → Option (List ℕ) → Option (List ℕ) → Exit → Type 0
-AllEnds input rest all finish old new exit.Done = EndsAs exit.Done input all finish old new × IfSome input (λ i. IsAtEnd rest)
-AllEnds input rest all finish old new exit.BadBundle = EndsAs exit.BadBundle input all finish old new
-AllEnds input rest all finish old new exit.LineTooLong = EndsAs exit.LineTooLong input all finish old new
-AllEnds input rest all finish old new exit.InputTooLong = EndsAs exit.InputTooLong input all finish old new
-AllEnds input rest all finish old new exit.ReadFault = IfSome input (λ i. AppendsSome old new (all i))
-AllEnds input rest all finish old new exit.WriteFault = IfSome input (λ i. AppendsFront old new (flat_map show (all i)))
-AllEnds input rest all finish old new exit.NoMemory = IfSome input (λ i. AppendsSome old new (all i))
-AllEnds input rest all finish old new exit.Usage = ⊥
+-- the bytes of the replies to what was taken of the input were appended
+abbrev pub AppendsPart : List ℕ → Option (List ℕ) → (List ℕ → List Reply) → Option (List ℕ) → Option (List ℕ) → Type 0
+AppendsPart input rest part old new = (taken : List ℕ) × Consumes (Some input) rest taken × Appends old new (flat_map show (part taken))
+
+-- How a session ends over an input that has these replies and this end, and to a part of which there are those replies: by
+-- the bytes that were to come and those that are still to come, and by what the sink held and holds, where these are known.
+abbrev pub AllEnds : Option (List ℕ) → Option (List ℕ) → (List ℕ → List Reply) → (List ℕ → List Reply) → (List ℕ → Exit) → Option (List ℕ) → Option (List ℕ) → Exit → Type 0
+AllEnds input rest all part finish old new exit.Done = EndsAs exit.Done input all finish old new × IfSome input (λ i. IsAtEnd rest)
+AllEnds input rest all part finish old new exit.BadBundle = EndsAs exit.BadBundle input all finish old new
+AllEnds input rest all part finish old new exit.LineTooLong = EndsAs exit.LineTooLong input all finish old new
+AllEnds input rest all part finish old new exit.InputTooLong = EndsAs exit.InputTooLong input all finish old new
+AllEnds input rest all part finish old new exit.ReadFault = IfSome input (λ i. AppendsPart i rest part old new)
+AllEnds input rest all part finish old new exit.WriteFault = IfSome input (λ i. AppendsFront old new (flat_map show (all i)))
+AllEnds input rest all part finish old new exit.NoMemory = IfSome input (λ i. AppendsSome old new (all i))
+AllEnds input rest all part finish old new exit.Usage = ⊥
 
 -- the word `run`
 abbrev pub RunEnds : Option (List ℕ) → Option (List ℕ) → Option (List ℕ) → Option (List ℕ) → Exit → Type 0
-RunEnds input rest old new end = AllEnds input rest trace finish old new end
+RunEnds input rest old new end = AllEnds input rest trace trace_part finish old new end
 
 -- other words
 abbrev pub UsageEnds : Option (List ℕ) → Option (List ℕ) → Exit → Type 0

@@ -1,5 +1,5 @@
 -- A tick by fresh evaluation (this project, after the Observable Runtime).
-use Rattle.std.specs.Prelude.{ℕ, ◌+◌, ℤ, List, [], ◌∷◌, ◌++◌, ◌&&◌, Bool, true, false, not, codes, slice_get, unwrap_or, Option, Some, None, option_and_then, if◌then◌else◌}
+use Rattle.std.specs.Prelude.{ℕ, ◌+◌, ℤ, List, [], ◌∷◌, ◌++◌, ◌&&◌, Bool, false, not, codes, slice_get, unwrap_or, Option, Some, None, if◌then◌else◌}
 use Rattle.std.specs.Fmt.{signed_decimal}
 use Rattle.ob_base.specs.declared.report.Event.{Event}
 use Rattle.ob_base.specs.declared.report.Event.TheVariants as event

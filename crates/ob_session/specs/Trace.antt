@@ -1,10 +1,10 @@
 -- What a whole input is answered with (this project).
-use Rattle.std.specs.Prelude.{◌≡◌, ℕ, zero, suc, ◌+◌, ◌-◌, List, [], ◌∷◌, ◌++◌, length, drop, nat_le, Result, Ok, Err}
+use Rattle.std.specs.Prelude.{ℕ, zero, suc, ◌+◌, ◌-◌, List, [], ◌∷◌, ◌++◌, length, drop, nat_le, Result, Ok, Err, if◌then◌else◌}
 use Rattle.std.specs.List.{flat_map}
 use Rattle.ob_base.specs.declared.cause.Cause.{Cause}
 use Rattle.ob_io.specs.declared.next_line.NextLine.{NextLine}
 use Rattle.ob_io.specs.declared.next_line.NextLine.TheVariants as coming
-use Rattle.ob_io.specs.Lines.{next_of, feed_len}
+use Rattle.ob_io.specs.Lines.{next_of, feed_len, is_line_feed}
 use Rattle.ob_session.specs.declared.reply.Reply.{Reply}
 use Rattle.ob_session.specs.declared.reply.Reply.TheVariants as reply
 use Rattle.ob_session.specs.declared.exit.Exit.{Exit}
@@ -56,6 +56,14 @@ lines left bytes = lines_up_to (suc (length bytes)) left bytes
 abbrev pub end : ℕ → List ℕ → NextLine
 end left bytes = end_up_to (suc (length bytes)) left bytes
 
+-- the lines of these bytes that a line feed ends, of which the first begins with those before
+abbrev pub fed_from : List ℕ → List ℕ → List (List ℕ)
+fed_from line [] = []
+fed_from line (b ∷ bytes) = if is_line_feed b then line ∷ fed_from [] bytes else fed_from (line ++ b ∷ []) bytes
+
+abbrev pub fed_lines : List ℕ → List (List ℕ)
+fed_lines bytes = fed_from [] bytes
+
 abbrev pub exit_of : NextLine → Exit
 exit_of (coming.Line line) = exit.Done
 exit_of coming.End = exit.Done
@@ -83,6 +91,10 @@ trace_of (first ∷ more) = opened (open_world first) more
 -- the replies and reports to an input
 unfoldable pub trace : List ℕ → List Reply
 trace input = trace_of (all_lines input)
+
+-- those to the lines that had come whole in these bytes, its front
+abbrev pub trace_part : List ℕ → List Reply
+trace_part taken = trace_of (fed_lines taken)
 
 -- their bytes
 abbrev pub out : List ℕ → List ℕ

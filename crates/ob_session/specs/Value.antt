@@ -1,5 +1,5 @@
 -- The value of a cell from that of its input, by ECMA-262's "Additive Operators" in the integers of the language.
-use Rattle.std.specs.Prelude.{ℕ, ℤ, pos, negsuc, ◌+ℤ◌, int_le, List, ◌&&◌, Option, Some, None, option_and_then, if◌then◌else◌}
+use Rattle.std.specs.Prelude.{ℤ, pos, negsuc, ◌+ℤ◌, int_le, ◌&&◌, Option, Some, None, option_and_then, if◌then◌else◌}
 use Rattle.ob_base.specs.declared.operators.BinaryOp.{BinaryOp}
 use Rattle.ob_base.specs.declared.operators.BinaryOp.TheVariants as op
 use Rattle.ob_tree_types.specs.declared.tree.Expr.{Expr, fold-Expr}

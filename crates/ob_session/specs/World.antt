@@ -1,5 +1,5 @@
 -- The notebook that a bundle opens, and what a command makes of it (this project).
-use Rattle.std.specs.Prelude.{ℕ, List, [], ◌∷◌, ◌++◌, length, replicate, Bool, true, false, not, ◌&&◌, ◌||◌, nat_le, bytes_eq, slice_set, Option, Some, None, option_map, option_and_then, Result, Ok, Err, if◌then◌else◌}
+use Rattle.std.specs.Prelude.{ℕ, List, [], ◌∷◌, ◌++◌, length, replicate, Bool, true, false, ◌&&◌, ◌||◌, nat_le, bytes_eq, slice_set, Option, Some, None, option_map, option_and_then, Result, Ok, Err, if◌then◌else◌}
 use Rattle.std.specs.List.{list_any, position_from}
 use Rattle.ob_base.specs.declared.cause.Cause.{Cause}
 use Rattle.ob_base.specs.declared.cause.Cause.TheVariants as cause
@@ -8,7 +8,6 @@ use Rattle.ob_base.specs.declared.command.Command.TheVariants as command
 use Rattle.ob_base.specs.declared.command.NewCell.{NewCell}
 use Rattle.ob_tree_types.specs.declared.cell.CellTree.{CellTree}
 use Rattle.ob_tree_types.specs.declared.cell.CellTree.TheVariants as cell
-use Rattle.ob_tree_types.specs.declared.tree.Function.{Function}
 use Rattle.ob_parse.specs.Reading.{cell_of}
 use Rattle.ob_session.specs.declared.world.Cell.{Cell}
 use Rattle.ob_session.specs.declared.world.World.{World}

@@ -6,9 +6,9 @@ ghost use Rattle.ob_session.specs.Ends.{AllEnds, RunEnds, Refuses};
 ghost use Rattle.ob_session.specs.Reading.{IsReading, IsBetween, IsOver, left_of};
 ghost use Rattle.ob_session.specs.Show.{show};
 ghost use Rattle.ob_session.specs.Sound.{IsSound};
-ghost use Rattle.ob_session.specs.Step.{GoesOn};
+ghost use Rattle.ob_session.specs.Step.{GoesOn, IsUnfed};
 ghost use Rattle.ob_session.specs.Stops.{IsStop, IsEnd};
-ghost use Rattle.ob_session.specs.Trace.{lines, end, exit_of, opened, finish_opened, trace, finish};
+ghost use Rattle.ob_session.specs.Trace.{lines, end, exit_of, fed_lines, opened, finish_opened};
 
 use crate::answer::{CommandError, open_line};
 use crate::exit::Exit;
@@ -74,16 +74,19 @@ fn answer_next<S: Source, K: Sink>(
     requires reading { IsReading reader.old }
     requires between { IsBetween world.old reader.old }
     ensures goes { IfNone result (GoesOn (left_of reader.old) (left_of reader.new)
-        (prepend_known reader.old.kept (S.left source.old)) (prepend_known reader.new.kept (S.left source.new))
+        (prepend_known reader.old.kept (S.left source.old)) (prepend_known reader.new.kept (S.left source.new)) reader.new.ended
         world.old world.new (K.held sink.old) (K.held sink.new)) }
     ensures reading { IfNone result (IsReading reader.new) }
     ensures over { IfNone result (IfSome (prepend_known reader.old.kept (S.left source.old)) (λ b. IsOver reader.new (prepend_known reader.new.kept (S.left source.new)))) }
     ensures between { IfNone result (IsBetween world.new reader.new) }
     ensures onward { IfNone result (reader.old.handed < reader.new.handed) }
+    ensures fed { IfNone result (IsFalse reader.old.ended) }
     ensures causes { IfSome result IsEnd }
+    ensures done { IsTrue reader.old.ended → result ≡ Some Exit.Done }
+    ensures kept { result ≡ Some Exit.ReadFault → IsUnfed reader.new.kept }
     ensures ends { IsOver reader.old (prepend_known reader.old.kept (S.left source.old)) → IfSome result (AllEnds
         (prepend_known reader.old.kept (S.left source.old)) (prepend_known reader.new.kept (S.left source.new))
-        (λ b. replies world.old (lines (left_of reader.old) b)) (λ b. exit_of (end (left_of reader.old) b)) (K.held sink.old) (K.held sink.new)) }
+        (λ b. replies world.old (lines (left_of reader.old) b)) (λ t. replies world.old (fed_lines t)) (λ b. exit_of (end (left_of reader.old) b)) (K.held sink.old) (K.held sink.new)) }
     ensures read_fault { result ≡ Some Exit.ReadFault → Rose (S.faults source.old) (S.faults source.new) }
     ensures write_fault { result ≡ Some Exit.WriteFault → Rose (K.faults sink.old) (K.faults sink.new) }
     ensures read_later { S.faults source.old ≤ S.faults source.new }
@@ -113,9 +116,11 @@ fn answer_lines<S: Source, K: Sink>(
     requires reading { IsReading reader.old }
     requires between { IsBetween world reader.old }
     ensures causes { IsEnd result }
+    ensures done { IsTrue reader.old.ended → result ≢ Exit.ReadFault }
+    ensures kept { result ≡ Exit.ReadFault → IsUnfed reader.new.kept }
     ensures ends { IsOver reader.old (prepend_known reader.old.kept (S.left source.old)) → AllEnds
         (prepend_known reader.old.kept (S.left source.old)) (prepend_known reader.new.kept (S.left source.new))
-        (λ b. replies world (lines (left_of reader.old) b)) (λ b. exit_of (end (left_of reader.old) b)) (K.held sink.old) (K.held sink.new) result }
+        (λ b. replies world (lines (left_of reader.old) b)) (λ t. replies world (fed_lines t)) (λ b. exit_of (end (left_of reader.old) b)) (K.held sink.old) (K.held sink.new) result }
     ensures read_fault { result ≡ Exit.ReadFault → Rose (S.faults source.old) (S.faults source.new) }
     ensures write_fault { result ≡ Exit.WriteFault → Rose (K.faults sink.old) (K.faults sink.new) }
     ensures read_later { S.faults source.old ≤ S.faults source.new }
@@ -141,9 +146,11 @@ fn answer_world<S: Source, K: Sink>(
     requires reading { IsReading reader.old }
     requires between { IsBetween world reader.old }
     ensures causes { IsEnd result }
+    ensures done { IsTrue reader.old.ended → result ≢ Exit.ReadFault }
+    ensures kept { result ≡ Exit.ReadFault → IsUnfed reader.new.kept }
     ensures ends { IsOver reader.old (prepend_known reader.old.kept (S.left source.old)) → AllEnds
         (prepend_known reader.old.kept (S.left source.old)) (prepend_known reader.new.kept (S.left source.new))
-        (λ b. Reply.Accepted ∷ replies world (lines (left_of reader.old) b)) (λ b. exit_of (end (left_of reader.old) b)) (K.held sink.old) (K.held sink.new) result }
+        (λ b. Reply.Accepted ∷ replies world (lines (left_of reader.old) b)) (λ t. Reply.Accepted ∷ replies world (fed_lines t)) (λ b. exit_of (end (left_of reader.old) b)) (K.held sink.old) (K.held sink.new) result }
     ensures read_fault { result ≡ Exit.ReadFault → Rose (S.faults source.old) (S.faults source.new) }
     ensures write_fault { result ≡ Exit.WriteFault → Rose (K.faults sink.old) (K.faults sink.new) }
     ensures read_later { S.faults source.old ≤ S.faults source.new }
@@ -178,9 +185,11 @@ fn answer_first<S: Source, K: Sink>(
     requires reading { IsReading reader.old }
     ensures ends { IsOver reader.old (prepend_known reader.old.kept (S.left source.old)) → AllEnds
         (prepend_known reader.old.kept (S.left source.old)) (prepend_known reader.new.kept (S.left source.new))
-        (λ b. opened (open_world line.now) (lines (left_of reader.old) b)) (λ b. finish_opened (open_world line.now) (exit_of (end (left_of reader.old) b)))
+        (λ b. opened (open_world line.now) (lines (left_of reader.old) b)) (λ t. opened (open_world line.now) (fed_lines t)) (λ b. finish_opened (open_world line.now) (exit_of (end (left_of reader.old) b)))
         (K.held sink.old) (K.held sink.new) result }
     ensures causes { result ≢ Exit.Usage }
+    ensures done { IsTrue reader.old.ended → result ≢ Exit.ReadFault }
+    ensures kept { result ≡ Exit.ReadFault → IsUnfed reader.new.kept }
     ensures read_fault { result ≡ Exit.ReadFault → Rose (S.faults source.old) (S.faults source.new) }
     ensures write_fault { result ≡ Exit.WriteFault → Rose (K.faults sink.old) (K.faults sink.new) }
     ensures read_later { S.faults source.old ≤ S.faults source.new }
@@ -203,6 +212,7 @@ pub fn run_from<S: Source, K: Sink>(
     requires reading { IsReading reader.old }
     requires fresh { (reader.old.kept ≡ []) × (reader.old.handed ≡ 0) × IsFalse reader.old.ended }
     ensures ends { RunEnds (S.left source.old) (prepend_known reader.new.kept (S.left source.new)) (K.held sink.old) (K.held sink.new) result }
+    ensures kept { result ≡ Exit.ReadFault → IsUnfed reader.new.kept }
     ensures read_fault { result ≡ Exit.ReadFault → Rose (S.faults source.old) (S.faults source.new) }
     ensures write_fault { result ≡ Exit.WriteFault → Rose (K.faults sink.old) (K.faults sink.new) }
     ensures read_later { S.faults source.old ≤ S.faults source.new }

@@ -1,5 +1,4 @@
 use Rattle.std.proofs.Common.{◌≡◌, map, Some, sym, subst, arith}
-use Rattle.std.specs.Prelude.{IfSome, ◌<◌, length}
 use Rattle.ob_session.specs.declared.world.Cell.{Cell}
 use Rattle.ob_session.specs.Inputs.{IsBuiltUp}
 use Rattle.ob_session.specs.World.{cell_from}

@@ -1,8 +1,8 @@
-use Rattle.std.proofs.Common.{◌≡◌, ◌-◌, ℕ, ap, sym, ◌∙◌, zero-add, arith}
+use Rattle.std.proofs.Common.{◌≡◌, ◌-◌, ℕ, ◌∙◌, zero-add, arith}
 use Rattle.ob_session.specs.Reading.{left_of}
 use Rattle.ob_session.specs.Trace.{input_limit}
-use Rattle.ob_session.proofs.Next.{line_comes, end_comes}
-use Rattle.ob_session.proofs.Firsts.{first_ends, none_ends, first_line_long, first_input_long, fresh_first, fresh_end, fresh_limit}
+use Rattle.ob_session.proofs.Next.{line_comes, end_comes, line_unfed, end_met}
+use Rattle.ob_session.proofs.Firsts.{first_ends, none_ends, first_line_long, first_input_long, fresh_first, fresh_end, fresh_limit, first_fault, fresh_keeps}
 use Rattle.ob_session.proofs.session.run_from.Goals as goal
 
 whole : (limit handed : ℕ) → limit ≡ input_limit → handed ≡ 0 → limit - handed ≡ input_limit
@@ -16,6 +16,7 @@ returns-in-Line-clause-ends g c =
     (fresh_first c.args.reader.now.kept (left_of c.args.reader.now) _ _ c.in-Line.line c.next_line.new.self.ended c.requires.fresh.0
     (whole c.args.reader.now.input_limit c.args.reader.now.handed c.requires.reading.input c.requires.fresh.1)
     (line_comes c.args.reader.now.ended c.next_line.new.self.ended c.args.reader.now.line_limit _ _ _ c.in-Line.line c.requires.reading.line c.in-Line.ensures.next (λ e. (c.in-Line.ensures.over e).0)))
+    (line_unfed c.args.reader.now.ended c.next_line.new.self.ended c.args.reader.now.line_limit (left_of c.args.reader.now) c.next_line.new.self.kept c.in-Line.line c.requires.fresh.2 c.in-Line.ensures.within) c.answer_first.ensures.done
     (rw c.as_slice.ensures at c.answer_first.ensures.ends)
 
 pub returns-in-End-clause-ends : goal.returns-in-End-clause-ends
@@ -24,6 +25,7 @@ returns-in-End-clause-ends g c =
     (fresh_end c.args.reader.now.kept (left_of c.args.reader.now) _ _ c.requires.fresh.0
     (whole c.args.reader.now.input_limit c.args.reader.now.handed c.requires.reading.input c.requires.fresh.1)
     (end_comes c.args.reader.now.ended c.next_line.new.self.ended c.args.reader.now.line_limit _ _ _ c.requires.reading.line c.in-End.ensures.next c.requires.fresh.2))
+    (c.answer_first-in-End.ensures.done (end_met c.args.reader.now.ended _ _ _ _ _ c.requires.fresh.2 c.in-End.ensures.next))
     c.answer_first-in-End.ensures.ends
 
 pub returns-in-LineTooLong-clause-ends : goal.returns-in-LineTooLong-clause-ends
@@ -35,3 +37,6 @@ pub returns-in-InputTooLong-clause-ends : goal.returns-in-InputTooLong-clause-en
 returns-in-InputTooLong-clause-ends g c =
     first_input_long _ _ (fresh_limit c.args.reader.now.kept (left_of c.args.reader.now) c.args.reader.now.line_limit _ _ c.requires.fresh.0
     (whole c.args.reader.now.input_limit c.args.reader.now.handed c.requires.reading.input c.requires.fresh.1) c.requires.reading.line (c.in-InputTooLong.ensures.next c.requires.fresh.2).0)
+
+pub returns-in-ReadFault-clause-ends : goal.returns-in-ReadFault-clause-ends
+returns-in-ReadFault-clause-ends g c = first_fault _ _ _ (fresh_keeps c.args.reader.now.kept _ _ c.requires.fresh.0 (c.in-ReadFault.ensures.next c.requires.fresh.2).0)
