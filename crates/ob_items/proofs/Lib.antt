@@ -1,0 +1,4 @@
+pub mod DecimalLemmas
+pub mod ListLemmas
+pub mod LiteralLemmas
+pub mod UnitsMapLemmas

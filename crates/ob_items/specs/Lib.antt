@@ -1,0 +1,6 @@
+pub mod Bodies
+pub mod IndexText
+pub mod Items
+pub mod Messages
+pub mod Properties
+pub mod Region

@@ -1,0 +1,4 @@
+pub mod Freeze
+pub mod Reach
+pub mod Store
+pub mod Values
