@@ -1,5 +1,5 @@
 -- The literals of a region stay texts of their units.
-use Rattle.std.proofs.Common.{◌≡◌, ◌≢◌, ◌⊎◌, ◌∙◌, ℕ, Some, None, Bool, true, false, cond, IsSome, is_some, Option, Result, Ok, Err, OnOk, OnErr, IfOk, List, [], ◌∷◌, ◌++◌, refl, slice_get, slice_set, ap, sym, subst, arith, length, inl, inr, nat_eq}
+use Rattle.std.proofs.Common.{◌≡◌, ◌⊎◌, ◌∙◌, ℕ, Some, None, Bool, true, false, cond, is_some, Option, Result, Ok, Err, OnOk, OnErr, IfOk, List, [], ◌∷◌, ◌++◌, refl, slice_get, slice_set, ap, sym, subst, arith, length, inl, inr, nat_eq}
 use Rattle.std.proofs.lemmas.Bool.{true≢false}
 use Rattle.std.proofs.lemmas.Grind.{common_steps}
 use Rattle.std.specs.Cmp.Lexicographic.{pointwise}
@@ -7,12 +7,12 @@ use Rattle.std.specs.Map.{lookup}
 use Rattle.std.specs.Option.{option_map_or}
 use Rattle.indexmap.specs.IndexMap.{insert_entry}
 use Rattle.ob_items.specs.Bodies.{text_of}
-use Rattle.ob_items.specs.Items.{at_item, changed, with_body, is_frozen_at, marked_at, live}
+use Rattle.ob_items.specs.Items.{at_item, changed, with_body, marked_at, live}
 use Rattle.ob_items.specs.Region.{AreLiterals}
 use Rattle.ob_items.specs.declared.item.Item.{Item}
 use Rattle.ob_items.specs.declared.item.Body.{Body}
 use Rattle.ob_items.specs.declared.item.Body.TheVariants as B
-use Rattle.ob_items.proofs.DecimalLemmas.{same_text, text_same}
+use Rattle.ob_items.proofs.DecimalLemmas.{same_text}
 use Rattle.ob_items.proofs.ListLemmas.{slice_get-set_same, slice_get-set_other, slice_get-push_last, slice_get-push_within, equal_or_not}
 
 pub none_is_not_some : {X : Type 0} (x : X) → None ≡ Some x → ⊥

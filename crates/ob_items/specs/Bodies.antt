@@ -1,9 +1,8 @@
 -- What an item is, by its kind.
-use Rattle.std.specs.Prelude.{◌≡◌, ℕ, List, Option, Some, None, length}
+use Rattle.std.specs.Prelude.{ℕ, List, Option, Some, None, length}
 use Rattle.ob_items.specs.Properties.{Keyed}
 use Rattle.ob_items.specs.declared.value.Ref.{Ref}
 use Rattle.ob_items.specs.declared.value.Value.{Value}
-use Rattle.ob_items.specs.declared.value.ErrorKind.{ErrorKind}
 use Rattle.ob_items.specs.declared.value.Kind.{Kind}
 use Rattle.ob_items.specs.declared.value.Kind.TheVariants as K
 use Rattle.ob_items.specs.declared.frame.Frame.{Frame}

@@ -1,14 +1,13 @@
 -- The items of a region, in the order of allocation, and what a write makes of them.
-use Rattle.std.specs.Prelude.{◌≡◌, ℕ, ◌+◌, ◌==◌, ◌&&◌, nat_lt, Bool, true, false, List, [], ◌∷◌, ◌++◌, length, Option, Some, None, Result, Ok, Err, slice_get, slice_set, remove, if◌then◌else◌, is_none}
+use Rattle.std.specs.Prelude.{ℕ, ◌+◌, ◌==◌, ◌&&◌, nat_lt, Bool, true, false, List, [], ◌∷◌, ◌++◌, length, Option, Some, None, Result, Ok, Err, slice_get, slice_set, if◌then◌else◌, is_none}
 use Rattle.std.specs.Option.{option_map_or}
-use Rattle.ob_items.specs.Bodies.{text_of, array_of, properties_of, box_of, hooks_of, kept_of, kept_from, after_take}
-use Rattle.ob_items.specs.Properties.{property, with_property}
+use Rattle.ob_items.specs.Bodies.{array_of, properties_of, hooks_of}
+use Rattle.ob_items.specs.Properties.{property}
 use Rattle.ob_items.specs.declared.value.Value.{Value}
 use Rattle.ob_items.specs.declared.error.SetError.{SetError}
 use Rattle.ob_items.specs.declared.error.SetError.TheVariants as S
 use Rattle.ob_items.specs.declared.error.HookError.{HookError}
 use Rattle.ob_items.specs.declared.error.HookError.TheVariants as H
-use Rattle.ob_items.specs.declared.frame.Frame.{Frame}
 use Rattle.ob_items.specs.declared.item.Item.{Item}
 use Rattle.ob_items.specs.declared.item.Body.{Body}
 use Rattle.ob_items.specs.declared.item.Body.TheVariants as B

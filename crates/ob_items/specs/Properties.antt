@@ -1,6 +1,6 @@
 -- The properties of an object in the order of their keys: array indices rising, then the others in order of creation
 -- (ECMA-262, "OrdinaryOwnPropertyKeys").
-use Rattle.std.specs.Prelude.{◌≡◌, ℕ, ◌+◌, ◌++◌, List, [], Option, Some, None, map, length, nat_eq, decimal}
+use Rattle.std.specs.Prelude.{ℕ, ◌+◌, ◌++◌, List, [], Option, map, length, nat_eq, decimal}
 use Rattle.std.specs.Ordering.{nat_cmp}
 use Rattle.std.specs.Option.{option_map_or}
 use Rattle.std.specs.Cmp.Lexicographic.{pointwise}

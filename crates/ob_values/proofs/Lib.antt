@@ -1,2 +1,6 @@
+pub mod LiteralSound
+pub mod PointerLemmas
 pub mod ReachLemmas
 pub mod SeenLemmas
+pub mod SoundLemmas
+pub mod StoreLemmas

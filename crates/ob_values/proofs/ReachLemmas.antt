@@ -1,5 +1,5 @@
 -- A search finds exactly what is reached.
-use Rattle.std.proofs.Common.{◌≡◌, ℕ, zero, suc, ◌+◌, ◌<◌, ◌≤◌, Some, List, [], ◌∷◌, refl, slice_get, ap, subst, ◌∙◌, sym, arith, length, inl, inr, Option}
+use Rattle.std.proofs.Common.{◌≡◌, ℕ, zero, suc, ◌+◌, ◌<◌, ◌≤◌, Some, List, [], refl, slice_get, ap, subst, ◌∙◌, sym, arith, length, inl, inr, Option}
 use Rattle.std.proofs.lemmas.Bool.{cases_lt}
 use Rattle.std.specs.List.{Contains}
 use Rattle.ob_items.specs.declared.value.Ref.{Ref}

@@ -1,12 +1,11 @@
 -- What a search has met.
-use Rattle.std.proofs.Common.{◌≡◌, ◌⊎◌, ℕ, zero, suc, ◌+◌, ◌<◌, ◌≤◌, Bool, true, false, cond, Some, None, List, [], ◌∷◌, ◌++◌, refl, slice_get, ap, subst, ◌∙◌, arith, length, length-append, inl, inr}
+use Rattle.std.proofs.Common.{◌≡◌, ◌⊎◌, ℕ, zero, suc, ◌<◌, ◌≤◌, true, false, cond, Some, List, [], ◌∷◌, ◌++◌, refl, slice_get, ap, subst, ◌∙◌, arith, length, length-append, inl, inr}
 use Rattle.std.proofs.lemmas.Grind.{common_steps}
 use Rattle.std.proofs.lemmas.List.Elements.{Contains-append_left, Contains-push_cases, Contains-get_or, Contains-append_right}
 use Rattle.std.proofs.lemmas.Bool.Decides.{nat_tests}
 use Rattle.std.specs.List.{Contains, list_any}
 use Rattle.indexmap.proofs.CallerLemmas.{Contains-insert_key}
 use Rattle.ob_items.specs.declared.value.Ref.{Ref}
-use Rattle.ob_items.specs.declared.value.RegionKey.{RegionKey}
 use Rattle.ob_values.specs.Values.{ref_eq}
 use Rattle.ob_values.specs.Freeze.{with_ref, with_refs}
 

@@ -1,17 +1,12 @@
 -- What a contract sees of `Regions`: a store. A reference is the key of a region and the number of an allocation in it.
-use Rattle.std.specs.Prelude.{◌≡◌, ◌≢◌, ℕ, ℤ, pos, negsuc, ◌+◌, ◌/◌, ◌==◌, ◌&&◌, max, Bool, false, true, List, [], ◌∷◌, ◌++◌, length, Option, Some, None, IsSome, nat_eq, nat_lt, slice_get, slice_set, slice_index_or, unwrap_or, if◌then◌else◌}
+use Rattle.std.specs.Prelude.{◌≡◌, ◌≢◌, ℕ, ℤ, pos, negsuc, ◌+◌, ◌/◌, max, Bool, false, List, length, Option, Some, None, IsSome, slice_get, slice_set, slice_index_or, unwrap_or}
 use Rattle.std.specs.Option.{option_map_or}
-use Rattle.std.specs.Cmp.Lexicographic.{pointwise}
-use Rattle.ob_items.specs.Bodies.{text_of, array_of, elements_of, properties_of, hooks_of}
-use Rattle.ob_items.specs.Items.{at_item, is_frozen_at, live, count_at, is_new_at, hooks_at, element_fault, property_fault, frozen_fault, hook_fault}
-use Rattle.ob_items.specs.Region.{Cells, no_cells, with_item, rewritten, marked, literal_at, after_literal}
-use Rattle.ob_items.specs.Properties.{property}
+use Rattle.ob_items.specs.Items.{at_item, is_frozen_at, count_at, is_new_at, hooks_at}
+use Rattle.ob_items.specs.Region.{Cells, with_item, rewritten, marked, literal_at, after_literal}
 use Rattle.ob_items.specs.declared.value.Value.{Value}
 use Rattle.ob_items.specs.declared.value.Value.TheVariants as V
 use Rattle.ob_items.specs.declared.value.Ref.{Ref}
 use Rattle.ob_items.specs.declared.value.RegionKey.{RegionKey}
-use Rattle.ob_items.specs.declared.error.SetError.{SetError}
-use Rattle.ob_items.specs.declared.error.HookError.{HookError}
 use Rattle.ob_items.specs.declared.item.Item.{Item}
 use Rattle.ob_items.specs.declared.item.Body.{Body}
 

@@ -4,6 +4,7 @@ ghost use Rattle.std.specs.Option.{option_copied};
 ghost use Rattle.ob_items.specs.Bodies.{kind_of, text_of, elements_of, properties_of, box_of, closure_of, message_of_error};
 ghost use Rattle.ob_items.specs.Properties.{property};
 ghost use Rattle.ob_items.specs.Region.{no_cells};
+ghost use Rattle.ob_values.specs.Sound.{KeepsSound, KeepsOutside};
 ghost use Rattle.ob_values.specs.Store.{region_of, IsOpen, item_of, read_item, is_frozen, elements_in, Updates, element};
 
 use ob_base::{List, NoMemory, Units};
@@ -57,6 +58,15 @@ impl Regions {
         ensures fresh { IfOk result (λ key. region_of self.old key.0 ≡ None) }
         ensures opened { IfOk result (λ key. Updates self.old self.new key.0 (Some no_cells)) }
         ensures err { OnErr result (self.new ≡ self.old) }
+        ensures kept { KeepsSound self.old self.new [] }
+    {
+        self.insert_region()
+    }
+
+    fn insert_region(&mut self) -> Result<RegionKey, NoMemory>
+        ensures fresh { IfOk result (λ key. region_of self.old key.0 ≡ None) }
+        ensures opened { IfOk result (λ key. Updates self.old self.new key.0 (Some no_cells)) }
+        ensures err { OnErr result (self.new ≡ self.old) }
     {
         match self.slots.insert(Region::new(self.alloc)) {
             Ok(key) => Ok(RegionKey(key)),
@@ -66,6 +76,14 @@ impl Regions {
 
     /// Closes a region, and leaves all others as they are. It takes no memory.
     pub fn close(&mut self, region: RegionKey)
+        requires { IsOpen self.old region }
+        ensures closed { self.new ≡ slice_set self.old region.0 None }
+        ensures kept { KeepsOutside self.old self.new region }
+    {
+        self.remove_region(region);
+    }
+
+    fn remove_region(&mut self, region: RegionKey)
         requires { IsOpen self.old region }
         ensures { self.new ≡ slice_set self.old region.0 None }
     {

@@ -1,8 +1,9 @@
 //! The calls that make an item.
-ghost use Rattle.std.specs.Prelude.{◌≡◌, ◌≢◌, ◌+◌, ◌<◌, ◌≤◌, ◌↔◌, length, IsSome, OnOk, OnErr, IfOk, Some, nat_lt};
+ghost use Rattle.std.specs.Prelude.{[], ◌≡◌, ◌≢◌, ◌+◌, ◌<◌, ◌≤◌, ◌↔◌, length, IsSome, OnOk, OnErr, IfOk, Some, nat_lt};
 ghost use Rattle.ob_items.specs.Bodies.{text_of};
 ghost use Rattle.ob_items.specs.Items.{live};
 ghost use Rattle.ob_items.specs.Properties.{no_properties};
+ghost use Rattle.ob_values.specs.Sound.{AddsItem, KeepsSound};
 ghost use Rattle.ob_values.specs.Store.{IsOpen, read_item, elements_in, with_new, next_ref, text_cost, literal_ref, with_literal_in};
 
 use crate::regions::Regions;
@@ -30,6 +31,18 @@ impl Regions {
         ensures memory { result ≢ Err AllocError.HeapFull }
         ensures key { IfOk result (λ r. r ≡ next_ref self.old region) }
         ensures ok { OnOk result (self.new ≡ with_new self.old region (live body) cost) }
+        ensures sound { IfOk result (AddsItem self.old self.new body) }
+        ensures err { OnErr result (self.new ≡ self.old) }
+    {
+        self.add_item(region, body, cost)
+    }
+
+    fn add_item(&mut self, region: RegionKey, body: Body, cost: u32) -> Result<Ref, AllocError>
+        requires open { IsOpen self.old region }
+        requires fits { elements_in self.old region + cost ≤ 50000 }
+        ensures memory { result ≢ Err AllocError.HeapFull }
+        ensures key { IfOk result (λ r. r ≡ next_ref self.old region) }
+        ensures ok { OnOk result (self.new ≡ with_new self.old region (live body) cost) }
         ensures err { OnErr result (self.new ≡ self.old) }
     {
         match self.slots.get_mut(region.0) {
@@ -48,6 +61,16 @@ impl Regions {
     }
 
     fn add_free(&mut self, region: RegionKey, body: Body) -> Result<Ref, NoMemory>
+        requires { IsOpen self.old region }
+        ensures key { IfOk result (λ r. r ≡ next_ref self.old region) }
+        ensures ok { OnOk result (self.new ≡ with_new self.old region (live body) 0) }
+        ensures sound { IfOk result (AddsItem self.old self.new body) }
+        ensures err { OnErr result (self.new ≡ self.old) }
+    {
+        self.add_free_item(region, body)
+    }
+
+    fn add_free_item(&mut self, region: RegionKey, body: Body) -> Result<Ref, NoMemory>
         requires { IsOpen self.old region }
         ensures key { IfOk result (λ r. r ≡ next_ref self.old region) }
         ensures ok { OnOk result (self.new ≡ with_new self.old region (live body) 0) }
@@ -79,6 +102,7 @@ impl Regions {
         ensures full { result ≡ Err AllocError.HeapFull ↔ (50000 < elements_in self.old region + (1 + length items.now)) }
         ensures key { IfOk result (λ r. r ≡ next_ref self.old region) }
         ensures ok { OnOk result (self.new ≡ with_new self.old region (live (Body.Array items.now)) (1 + length items.now)) }
+        ensures sound { IfOk result (AddsItem self.old self.new (Body.Array items.now)) }
         ensures err { OnErr result (self.new ≡ self.old) }
     {
         let cost = 1 + items.len();
@@ -100,6 +124,7 @@ impl Regions {
         ensures full { result ≡ Err AllocError.HeapFull ↔ (50000 < elements_in self.old region + 1) }
         ensures key { IfOk result (λ r. r ≡ next_ref self.old region) }
         ensures ok { OnOk result (self.new ≡ with_new self.old region (live (Body.Object no_properties)) 1) }
+        ensures sound { IfOk result (AddsItem self.old self.new (Body.Object no_properties)) }
         ensures err { OnErr result (self.new ≡ self.old) }
     {
         if self.is_full_for(region, 1) {
@@ -120,6 +145,7 @@ impl Regions {
         ensures full { result ≡ Err AllocError.HeapFull ↔ (50000 < elements_in self.old region + text_cost (length units.now)) }
         ensures key { IfOk result (λ r. r ≡ next_ref self.old region) }
         ensures ok { OnOk result (self.new ≡ with_new self.old region (live (Body.Text units.now)) (text_cost (length units.now))) }
+        ensures sound { IfOk result (AddsItem self.old self.new (Body.Text units.now)) }
         ensures err { OnErr result (self.new ≡ self.old) }
     {
         let cost = text_elements(units.len());
@@ -142,6 +168,7 @@ impl Regions {
         ensures full { result ≡ Err AllocError.HeapFull ↔ (50000 < elements_in self.old region + 1) }
         ensures key { IfOk result (λ r. r ≡ next_ref self.old region) }
         ensures ok { OnOk result (self.new ≡ with_new self.old region (live (Body.Box value)) 1) }
+        ensures sound { IfOk result (AddsItem self.old self.new (Body.Box value)) }
         ensures err { OnErr result (self.new ≡ self.old) }
     {
         if self.is_full_for(region, 1) {
@@ -168,6 +195,7 @@ impl Regions {
         ensures full { result ≡ Err AllocError.HeapFull ↔ (50000 < elements_in self.old region + 1) }
         ensures key { IfOk result (λ r. r ≡ next_ref self.old region) }
         ensures ok { OnOk result (self.new ≡ with_new self.old region (live (Body.Closure (record { code = code; boxes = boxes.now; inputs = inputs; invalidation = invalidation }))) 1) }
+        ensures sound { IfOk result (AddsItem self.old self.new (Body.Closure (record { code = code; boxes = boxes.now; inputs = inputs; invalidation = invalidation }))) }
         ensures err { OnErr result (self.new ≡ self.old) }
     {
         if self.is_full_for(region, 1) {
@@ -197,6 +225,7 @@ impl Regions {
         ensures full { result ≡ Err AllocError.HeapFull ↔ (50000 < elements_in self.old region + 1) }
         ensures key { IfOk result (λ r. r ≡ next_ref self.old region) }
         ensures ok { OnOk result (self.new ≡ with_new self.old region (live (Body.Generator (Taken.Held frame))) 1) }
+        ensures sound { IfOk result (AddsItem self.old self.new (Body.Generator (Taken.Held frame))) }
         ensures err { OnErr result (self.new ≡ self.old) }
     {
         if self.is_full_for(region, 1) {
@@ -222,6 +251,7 @@ impl Regions {
         ensures full { result ≡ Err AllocError.HeapFull ↔ (50000 < elements_in self.old region + 1) }
         ensures key { IfOk result (λ r. r ≡ next_ref self.old region) }
         ensures ok { OnOk result (self.new ≡ with_new self.old region (live (Body.Error kind message)) 1) }
+        ensures sound { IfOk result (AddsItem self.old self.new (Body.Error kind message)) }
         ensures err { OnErr result (self.new ≡ self.old) }
     {
         if self.is_full_for(region, 1) {
@@ -238,6 +268,7 @@ impl Regions {
         requires { IsOpen self.old region }
         ensures key { IfOk result (λ r. r ≡ next_ref self.old region) }
         ensures ok { OnOk result (self.new ≡ with_new self.old region (live (Body.Invalidation 0)) 0) }
+        ensures sound { IfOk result (AddsItem self.old self.new (Body.Invalidation 0)) }
         ensures err { OnErr result (self.new ≡ self.old) }
     {
         self.add_free(region, Body::Invalidation(0))
@@ -251,6 +282,7 @@ impl Regions {
         requires { IsOpen self.old region }
         ensures key { IfOk result (λ r. r ≡ next_ref self.old region) }
         ensures ok { OnOk result (self.new ≡ with_new self.old region (live (Body.Inputs values.now)) 0) }
+        ensures sound { IfOk result (AddsItem self.old self.new (Body.Inputs values.now)) }
         ensures err { OnErr result (self.new ≡ self.old) }
     {
         let list = List::from_slice(self.alloc, values)?;
@@ -263,6 +295,18 @@ impl Regions {
     /// # Errors
     /// `NoMemory` where an allocation is refused; all is then as before.
     pub fn literal(&mut self, region: RegionKey, units: &[u16]) -> Result<Ref, NoMemory>
+        requires { IsOpen self.old region }
+        ensures key { IfOk result (λ r. r ≡ literal_ref self.old region units.now) }
+        ensures ok { OnOk result (self.new ≡ with_literal_in self.old region units.now) }
+        ensures text { IfOk result (λ r. read_item text_of self.new r ≡ Some units.now) }
+        ensures sound { IfOk result (AddsItem self.old self.new (Body.Text units.now)) }
+        ensures kept { KeepsSound self.old self.new [] }
+        ensures err { OnErr result (self.new ≡ self.old) }
+    {
+        self.add_literal(region, units)
+    }
+
+    fn add_literal(&mut self, region: RegionKey, units: &[u16]) -> Result<Ref, NoMemory>
         requires { IsOpen self.old region }
         ensures key { IfOk result (λ r. r ≡ literal_ref self.old region units.now) }
         ensures ok { OnOk result (self.new ≡ with_literal_in self.old region units.now) }

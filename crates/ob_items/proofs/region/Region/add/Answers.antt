@@ -1,4 +1,4 @@
-use Rattle.std.proofs.Common.{◌≡◌, ◌≤◌, ◌+◌, arith, sym, ap, subst, ◌∙◌}
+use Rattle.std.proofs.Common.{◌≡◌, arith, sym, ap, subst}
 use Rattle.ob_items.specs.Region.{AreLiterals, Cells}
 use Rattle.ob_items.proofs.LiteralLemmas.{AreLiterals-push}
 use Rattle.ob_items.proofs.region.Region.add.Goals as goal

@@ -1,4 +1,4 @@
-use Rattle.std.proofs.Common.{◌≡◌, ◌∙◌, ap, sym}
+use Rattle.std.proofs.Common.{◌∙◌, ap, sym}
 use Rattle.ob_items.specs.Bodies.{text_of}
 use Rattle.ob_items.specs.Items.{at_item}
 use Rattle.ob_items.specs.Region.{Cells}

@@ -1,4 +1,4 @@
-use Rattle.std.proofs.Common.{◌≡◌, sym, subst}
+use Rattle.std.proofs.Common.{sym, subst}
 use Rattle.ob_items.specs.Region.{AreLiterals}
 use Rattle.ob_items.proofs.LiteralLemmas.{AreLiterals-marked}
 use Rattle.ob_items.proofs.region.Region.mark.Goals as goal

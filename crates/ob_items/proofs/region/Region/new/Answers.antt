@@ -1,4 +1,4 @@
-use Rattle.std.proofs.Common.{[], sym, subst, arith, ◌≡◌}
+use Rattle.std.proofs.Common.{sym, subst, arith}
 use Rattle.ob_items.specs.Region.{AreLiterals}
 use Rattle.ob_items.proofs.LiteralLemmas.{AreLiterals-none}
 use Rattle.ob_items.proofs.region.Region.new.Goals as goal

@@ -1,4 +1,4 @@
-use Rattle.std.proofs.Common.{◌≡◌, refl, sym, subst}
+use Rattle.std.proofs.Common.{refl, sym, subst}
 use Rattle.ob_items.specs.Bodies.{kept_of, kept_from}
 use Rattle.ob_items.specs.Region.{AreLiterals}
 use Rattle.ob_items.specs.declared.item.Body.TheVariants as B

@@ -1,5 +1,5 @@
-use Rattle.std.proofs.Common.{◌≡◌, ◌+◌, refl, remove, Some, None}
-use Rattle.ob_items.specs.Bodies.{array_of, properties_of, box_of, hooks_of, kept_of, after_take, kept_from}
+use Rattle.std.proofs.Common.{refl, remove}
+use Rattle.ob_items.specs.Bodies.{array_of}
 use Rattle.ob_items.specs.declared.item.Body.TheVariants as B
 use Rattle.ob_items.proofs.LiteralLemmas.{AreLiterals-written}
 use Rattle.ob_items.proofs.region.Region.remove_element.Goals as goal

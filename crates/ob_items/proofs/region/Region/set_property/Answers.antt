@@ -1,6 +1,5 @@
-use Rattle.std.proofs.Common.{◌≡◌, arith, refl}
-use Rattle.ob_items.specs.Bodies.{array_of, properties_of}
-use Rattle.ob_items.specs.Items.{with_element}
+use Rattle.std.proofs.Common.{arith, refl}
+use Rattle.ob_items.specs.Bodies.{properties_of}
 use Rattle.ob_items.specs.Properties.{with_property}
 use Rattle.ob_items.specs.declared.item.Body.TheVariants as B
 use Rattle.ob_items.proofs.LiteralLemmas.{AreLiterals-written}

@@ -1,4 +1,4 @@
-use Rattle.std.proofs.Common.{◌≡◌, ◌++◌, ◌∙◌, ap, subst, ℕ, List, Vec, Global, OnOk}
+use Rattle.std.proofs.Common.{◌≡◌, ◌++◌, ◌∙◌, ap, subst, ℕ, Vec, Global, OnOk}
 use Rattle.std.specs.Map.{values_of}
 use Rattle.ob_items.proofs.UnitsMapLemmas.{values_of-map}
 use Rattle.ob_items.proofs.units_map.UnitsMap.add_values.Goals as goal

@@ -1,4 +1,4 @@
-use Rattle.std.proofs.Common.{◌≡◌, ◌∙◌, sym, ap, ℕ, nat_eq, List, Vec, Global}
+use Rattle.std.proofs.Common.{◌∙◌, sym, ap, ℕ, nat_eq, Vec, Global}
 use Rattle.std.specs.Cmp.Lexicographic.{pointwise}
 use Rattle.std.specs.Map.{lookup}
 use Rattle.ob_items.proofs.UnitsMapLemmas.{lookup-map}

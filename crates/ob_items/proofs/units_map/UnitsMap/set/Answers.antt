@@ -1,4 +1,4 @@
-use Rattle.std.proofs.Common.{◌≡◌, ◌∙◌, sym, ap, ℕ, nat_eq, map, List, Vec, Global}
+use Rattle.std.proofs.Common.{◌∙◌, ap, ℕ, nat_eq, map, Vec, Global}
 use Rattle.std.specs.Cmp.Lexicographic.{pointwise}
 use Rattle.indexmap.specs.IndexMap.{insert_entry}
 use Rattle.ob_items.proofs.UnitsMapLemmas.{insert_entry-map}
