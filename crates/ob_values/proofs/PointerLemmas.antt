@@ -38,7 +38,7 @@ option_tail : {X : Type 0} (o : Option X) (xs : List X) (b : X) → Contains xs 
 option_tail None xs b h = h
 option_tail (Some x) xs b h = Contains-cons x xs b h
 
-from_values : (xs : List Value) (q : Pointer) → Contains (pointers_of xs) q → (v : Value) × Contains xs v × (pointer_of v ≡ Some q)
+pub from_values : (xs : List Value) (q : Pointer) → Contains (pointers_of xs) q → (v : Value) × Contains xs v × (pointer_of v ≡ Some q)
 from_values [] q h = absurd (Contains-none q h)
 from_values (x ∷ xs) q h =
     elim (option_cases (pointer_of x) (pointers_of xs) q h) [
@@ -46,7 +46,7 @@ from_values (x ∷ xs) q h =
       | inr t ↦ let u = from_values xs q t in (u.0, Contains-cons x xs u.0 u.1, u.2)
     ]
 
-to_values : (xs : List Value) (v : Value) (q : Pointer) → Contains xs v → pointer_of v ≡ Some q → Contains (pointers_of xs) q
+pub to_values : (xs : List Value) (v : Value) (q : Pointer) → Contains xs v → pointer_of v ≡ Some q → Contains (pointers_of xs) q
 to_values [] v q h e = absurd (Contains-none v h)
 to_values (x ∷ xs) v q h e =
     elim (Contains-cons_cases x xs v h) [

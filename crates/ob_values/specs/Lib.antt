@@ -1,4 +1,5 @@
 pub mod Freeze
+pub mod Operators
 pub mod Reach
 pub mod Sound
 pub mod Store
