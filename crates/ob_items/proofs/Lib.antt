@@ -1,0 +1,5 @@
+pub mod DecimalLemmas
+pub mod ListLemmas
+pub mod LiteralLemmas
+mod NumberRows
+pub mod UnitsMapLemmas

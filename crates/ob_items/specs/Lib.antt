@@ -1,0 +1,7 @@
+pub mod Bodies
+pub mod IndexText
+pub mod Items
+pub mod Messages
+pub mod Numbers
+pub mod Properties
+pub mod Region

@@ -1,0 +1,28 @@
+//! The items of a store of values: their types, the properties of an object, and the items of one
+//! region.
+#![tactic(auto)]
+
+mod error;
+mod frame;
+mod index_text;
+mod item;
+mod properties;
+mod region;
+mod thrown;
+mod units_map;
+mod value;
+mod writes;
+
+pub use error::{AllocError, Failure, HookError, OpError, PlainError, SetError, TextError};
+pub use frame::{Catch, Frame, Taken};
+pub use index_text::{decimal_units, index_of, integer_units, units_of};
+pub use item::{Body, Closure, Item, Suspended};
+pub use properties::Properties;
+pub use region::Region;
+pub use sqlite_items::Boxed;
+pub use thrown::Thrown;
+pub use units_map::UnitsMap;
+pub use value::{CodeKey, ErrorKind, Kind, Ref, RegionKey, Value};
+
+#[cfg(test)]
+mod tests;

@@ -1,0 +1,124 @@
+ghost use Rattle.std.specs.Prelude.{◌≡◌, IfOk, OnOk, OnErr, map, decimal};
+ghost use Rattle.ob_items.specs.Properties.{property, with_property, no_properties, values_of, keys_of};
+
+use crate::index_text::{decimal_units, index_of};
+use crate::{UnitsMap, Value};
+use ob_base::{List, NoMemory, Units};
+use std::alloc::Global;
+use std::collections::BTreeMap;
+use std::marker::Model;
+
+/// The properties of an object, in the order of their keys (ECMA-262, "OrdinaryOwnPropertyKeys").
+#[derive(Drop)]
+pub struct Properties {
+    maps: Box<PropertyMaps>,
+}
+
+// In a place of their own, so that items other than objects stay small.
+#[derive(Drop)]
+struct PropertyMaps {
+    indices: BTreeMap<u32, Value>,
+    named: UnitsMap<Value>,
+}
+
+impl Model for Properties {
+    ghost use Rattle.ob_items.specs.Properties.{Keyed};
+
+    ghost Value = { Keyed };
+
+    ghost view = { λ p. record { indices = p.maps.value.indices.entries; named = p.maps.value.named } };
+}
+
+impl Properties {
+    /// No property.
+    ///
+    /// # Errors
+    /// `NoMemory` where an allocation is refused.
+    pub fn new(alloc: Global) -> Result<Properties, NoMemory>
+        ensures { IfOk result (λ p. p ≡ no_properties) }
+    {
+        let maps = PropertyMaps {
+            indices: BTreeMap::new(alloc),
+            named: UnitsMap::new(alloc),
+        };
+        match Box::new(alloc, maps) {
+            Ok(maps) => Ok(Properties { maps }),
+            Err(_) => Err(NoMemory),
+        }
+    }
+
+    /// The value at a key; none where there is no such property.
+    pub fn get(&self, key: &[u16]) -> Option<Value>
+        ensures { result ≡ property self.now key.now }
+    {
+        match index_of(key) {
+            Some(index) => self.maps.indices.get(&index).copied(),
+            None => self.maps.named.get(key),
+        }
+    }
+
+    /// Writes the value at a key. A key that is there keeps its place.
+    ///
+    /// # Errors
+    /// `NoMemory` where an allocation is refused; the properties are then as before.
+    pub fn set(&mut self, alloc: Global, key: &[u16], value: Value) -> Result<(), NoMemory>
+        ensures ok { OnOk result (self.new ≡ with_property self.old key.now value) }
+        ensures err { OnErr result (self.new ≡ self.old) }
+    {
+        let maps = &mut *self.maps;
+        match index_of(key) {
+            Some(index) => match maps.indices.insert(index, value) {
+                Ok(_) => Ok(()),
+                Err(_) => Err(NoMemory),
+            },
+            None => maps.named.set(alloc, key, value),
+        }
+    }
+
+    /// The values, in the order of the keys.
+    ///
+    /// # Errors
+    /// `NoMemory` where an allocation is refused.
+    pub fn values(&self, alloc: Global) -> Result<List<Value>, NoMemory>
+        ensures { IfOk result (λ values. values ≡ values_of self.now) }
+    {
+        let maps = &*self.maps;
+        let mut values = index_values(alloc, &maps.indices)?;
+        maps.named.add_values(&mut values)?;
+        Ok(values)
+    }
+
+    /// The keys, in their order: array indices rising, then the others in order of creation.
+    ///
+    /// # Errors
+    /// `NoMemory` where an allocation is refused.
+    pub fn keys(&self, alloc: Global) -> Result<List<Units>, NoMemory>
+        ensures { IfOk result (λ keys. keys ≡ keys_of self.now) }
+    {
+        let maps = &*self.maps;
+        let mut keys = index_keys(alloc, &maps.indices)?;
+        maps.named.add_keys(alloc, &mut keys)?;
+        Ok(keys)
+    }
+}
+
+fn index_values(alloc: Global, indices: &BTreeMap<u32, Value>) -> Result<List<Value>, NoMemory>
+    ensures { IfOk result (λ values. values ≡ map (λ e. e.1) indices.now.entries) }
+{
+    let mut values = List::new(alloc);
+    for value in indices.values() {
+        values.push(*value)?;
+    }
+    Ok(values)
+}
+
+#[tactic(auto, using(crate::proofs::UnitsMapLemmas::decimal_keys))]
+fn index_keys(alloc: Global, indices: &BTreeMap<u32, Value>) -> Result<List<Units>, NoMemory>
+    ensures { IfOk result (λ keys. keys ≡ map (λ e. decimal e.0) indices.now.entries) }
+{
+    let mut keys = List::new(alloc);
+    for index in indices.keys() {
+        keys.push(decimal_units(alloc, u64::from(*index))?)?;
+    }
+    Ok(keys)
+}

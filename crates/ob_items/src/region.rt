@@ -1,0 +1,216 @@
+ghost use Rattle.std.specs.Prelude.{◌≡◌, ◌+◌, ◌==◌, ◌⊎◌, ◌∷◌, ◌++◌, ◌<◌, ◌≤◌, [], false, length, IsSome, unwrap_or, IfOk, IfSome, OnOk, OnErr, slice_get, remove, Some, nat_lt};
+ghost use Rattle.std.specs.Option.{option_map_or, option_copied};
+ghost use Rattle.ob_items.specs.Bodies.{text_of, array_of, properties_of, box_of, hooks_of, kept_of, after_take, kept_from};
+ghost use Rattle.ob_items.specs.Properties.{with_property};
+ghost use Rattle.ob_items.specs.Items.{at_item, is_frozen_at, fault_of, count_at, is_new_at, element_fault, with_element, property_fault, frozen_fault, hook_fault, hooks_at};
+
+use crate::{Body, Frame, HookError, Item, SetError, Taken, UnitsMap, Value, writes};
+use ob_base::{MAX_REGION_ELEMENTS, NoMemory, Units};
+use std::alloc::Global;
+use std::marker::Model;
+
+/// The items of a run, in the order of allocation, with the elements that they cost.
+#[derive(Drop)]
+pub struct Region {
+    items: Vec<Item>,
+    elements: u32,
+    literals: UnitsMap<usize>,
+}
+
+impl Model for Region {
+    ghost use Rattle.ob_items.specs.Region.{Cells, IsRegion};
+
+    ghost Value = { Cells };
+
+    ghost view = { λ r. record { items = r.items.items; elements = r.elements; literals = r.literals } };
+
+    ghost invariant = { λ r. IsRegion (record { items = r.items.items; elements = r.elements; literals = r.literals }) };
+}
+
+impl Region {
+    ghost use Rattle.ob_items.specs.Region.{no_cells, with_item, rewritten, marked, literal_at, after_literal};
+
+    /// The region of no item.
+    pub fn new(alloc: Global) -> Region
+        ensures { result ≡ no_cells }
+    {
+        Region {
+            items: Vec::new(alloc),
+            elements: 0,
+            literals: UnitsMap::new(alloc),
+        }
+    }
+
+    /// The elements that the items cost together, at most 50,000.
+    pub fn elements(&self) -> u32
+        ensures value { result ≡ self.now.elements }
+        ensures limit { result ≤ 50000 }
+    {
+        self.elements
+    }
+
+    /// Whether so many elements more are more than 50,000 together.
+    pub fn is_full_for(&self, cost: usize) -> bool
+        ensures { result ≡ nat_lt 50000 (self.now.elements + cost) }
+    {
+        cost > (MAX_REGION_ELEMENTS as u32 - self.elements) as usize
+    }
+
+    /// The item at a place, from 0; none past the end.
+    pub fn find(&self, at: usize) -> Option<&Item>
+        ensures { option_copied result ≡ slice_get self.now.items at }
+    {
+        self.items.get(at)
+    }
+
+    /// The item at a place that has one.
+    pub fn item(&self, at: usize) -> &Item
+        requires { at < length self.now.items }
+        ensures { slice_get self.now.items at ≡ Some result.now }
+    {
+        &self.items[at]
+    }
+
+    /// Adds an item at the end, which costs so many elements. It answers its place.
+    ///
+    /// # Errors
+    /// `NoMemory` where an allocation is refused; the region is then as before.
+    pub fn add(&mut self, item: Item, cost: u32) -> Result<usize, NoMemory>
+        requires { self.old.elements + cost ≤ 50000 }
+        ensures place { IfOk result (λ at. at ≡ length self.old.items) }
+        ensures ok { OnOk result (self.new ≡ with_item self.old item cost) }
+        ensures err { OnErr result (self.new ≡ self.old) }
+    {
+        let at = self.items.len();
+        match self.items.push(item) {
+            Ok(()) => {
+                self.elements += cost;
+                Ok(at)
+            }
+            Err(_) => Err(NoMemory),
+        }
+    }
+
+    /// Writes an element of an array, or appends one at its length.
+    ///
+    /// # Errors
+    /// `Frozen`, `PastEnd`, `HeapFull`, in this order; `NoMemory` where an allocation is refused,
+    /// which asks for none below the length. The region is then as before.
+    pub fn set_element(&mut self, at: usize, index: usize, value: Value) -> Result<(), SetError>
+        requires { IsSome (at_item array_of self.old.items at) }
+        ensures fault { (result ≡ Err SetError.NoMemory) ⊎ (fault_of result ≡ element_fault (is_frozen_at self.old.items at) (count_at self.old.items at) index self.old.elements) }
+        ensures memory { result ≡ Err SetError.NoMemory → index ≡ count_at self.old.items at }
+        ensures ok { OnOk result (self.new ≡ rewritten array_of (with_element index value) self.old at (index == count_at self.old.items at)) }
+        ensures err { OnErr result (self.new ≡ self.old) }
+    {
+        if writes::set_element(&mut self.items, at, index, self.elements, value)? {
+            self.elements += 1;
+        }
+        Ok(())
+    }
+
+    /// Writes a property of an object.
+    ///
+    /// # Errors
+    /// `Frozen`, `HeapFull`, in this order; `NoMemory` where an allocation is refused. The region is
+    /// then as before.
+    pub fn set_property(
+        &mut self,
+        alloc: Global,
+        at: usize,
+        key: &[u16],
+        value: Value,
+    ) -> Result<(), SetError>
+        requires { IsSome (at_item properties_of self.old.items at) }
+        ensures fault { (result ≡ Err SetError.NoMemory) ⊎ (fault_of result ≡ property_fault (is_frozen_at self.old.items at) (is_new_at self.old.items at key.now) self.old.elements) }
+        ensures ok { OnOk result (self.new ≡ rewritten properties_of (λ ps. Body.Object (with_property ps key.now value)) self.old at (is_new_at self.old.items at key.now)) }
+        ensures err { OnErr result (self.new ≡ self.old) }
+    {
+        if writes::set_property(alloc, &mut self.items, at, key, self.elements, value)? {
+            self.elements += 1;
+        }
+        Ok(())
+    }
+
+    /// Gives a box a value.
+    ///
+    /// # Errors
+    /// `Frozen` where the box is frozen; it is then as before.
+    pub fn fill_box(&mut self, at: usize, value: Value) -> Result<(), SetError>
+        requires { IsSome (at_item box_of self.old.items at) }
+        ensures fault { fault_of result ≡ frozen_fault (is_frozen_at self.old.items at) }
+        ensures ok { OnOk result (self.new ≡ rewritten box_of (λ _. Body.Box (Some value)) self.old at false) }
+        ensures err { OnErr result (self.new ≡ self.old) }
+    {
+        writes::fill_box(&mut self.items, at, value)
+    }
+
+    /// Takes an element out of an array; the later ones move down.
+    ///
+    /// # Errors
+    /// `Frozen` where the array is frozen; it is then as before.
+    pub fn remove_element(&mut self, at: usize, index: usize) -> Result<Option<Value>, SetError>
+        requires { IsSome (at_item array_of self.old.items at) }
+        ensures fault { fault_of result ≡ frozen_fault (is_frozen_at self.old.items at) }
+        ensures value { IfOk result (λ value. value ≡ option_map_or (λ vs. slice_get vs index) (at_item array_of self.old.items at) None) }
+        ensures ok { OnOk result (self.new ≡ rewritten array_of (λ vs. Body.Array (remove vs index)) self.old at false) }
+        ensures err { OnErr result (self.new ≡ self.old) }
+    {
+        writes::remove_element(&mut self.items, at, index)
+    }
+
+    /// Counts a hook of an invalidation object.
+    ///
+    /// # Errors
+    /// `Frozen` where the object is frozen, else `TooMany` where 1,000 were counted; it is then as
+    /// before.
+    pub fn add_hook(&mut self, at: usize) -> Result<(), HookError>
+        requires { IsSome (at_item hooks_of self.old.items at) }
+        ensures fault { fault_of result ≡ hook_fault (is_frozen_at self.old.items at) (hooks_at self.old.items at) }
+        ensures ok { OnOk result (self.new ≡ rewritten hooks_of (λ n. Body.Invalidation (n + 1)) self.old at false) }
+        ensures err { OnErr result (self.new ≡ self.old) }
+    {
+        writes::add_hook(&mut self.items, at)
+    }
+
+    /// Takes what a generator object keeps. If that is a frame, the generator then runs.
+    pub fn take_kept(&mut self, at: usize) -> Taken
+        requires { IsSome (at_item kept_of self.old.items at) }
+        ensures taken { at_item kept_of self.old.items at ≡ Some result }
+        ensures left { self.new ≡ rewritten kept_of (λ kept. Body.Generator (after_take kept)) self.old at false }
+    {
+        writes::take_kept(&mut self.items, at)
+    }
+
+    /// Gives a generator object a frame to keep, or its end.
+    pub fn put_kept(&mut self, at: usize, frame: Option<Frame>)
+        requires { IsSome (at_item kept_of self.old.items at) }
+        ensures { self.new ≡ rewritten kept_of (λ _. Body.Generator (kept_from frame)) self.old at false }
+    {
+        writes::put_kept(&mut self.items, at, frame)
+    }
+
+    /// The place of the one literal of these units: a text that costs no elements, made where there is
+    /// none yet.
+    ///
+    /// # Errors
+    /// `NoMemory` where an allocation is refused; the region is then as before.
+    pub fn literal(&mut self, alloc: Global, units: &[u16]) -> Result<usize, NoMemory>
+        ensures place { IfOk result (λ at. at ≡ unwrap_or (literal_at self.old units.now) (length self.old.items)) }
+        ensures ok { OnOk result (self.new ≡ after_literal self.old units.now) }
+        ensures text { IfOk result (λ at. at_item text_of self.new.items at ≡ Some units.now) }
+        ensures err { OnErr result (self.new ≡ self.old) }
+    {
+        if let Some(at) = self.literals.get(units) {
+            return Ok(at);
+        }
+        writes::add_literal(alloc, &mut self.items, &mut self.literals, units)
+    }
+
+    /// Gives an item the frozen mark, if it is there.
+    pub fn mark(&mut self, at: usize)
+        ensures { self.new ≡ marked self.old at }
+    {
+        writes::mark_item(&mut self.items, at)
+    }
+}

@@ -1,0 +1,5 @@
+use Rattle.ob_values.proofs.SoundLemmas.{AddsItem-new}
+use Rattle.ob_values.proofs.regions.Regions.add.Goals as goal
+
+pub returns-clause-sound : goal.returns-clause-sound
+returns-clause-sound c = AddsItem-new c.args.body c.add_item.result _ _ _ _ c.requires.open c.add_item.ensures.key c.add_item.ensures.ok

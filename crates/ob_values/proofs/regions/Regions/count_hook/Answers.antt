@@ -1,0 +1,5 @@
+use Rattle.ob_values.proofs.PointerLemmas.{KeepsSound-hook}
+use Rattle.ob_values.proofs.regions.Regions.count_hook.Goals as goal
+
+pub returns-clause-kept : goal.returns-clause-kept
+returns-clause-kept c = KeepsSound-hook c.write_hook.result _ _ _ c.requires c.write_hook.ensures.ok c.write_hook.ensures.err

@@ -1,0 +1,5 @@
+use Rattle.ob_values.proofs.PointerLemmas.{KeepsSound-put}
+use Rattle.ob_values.proofs.regions.Regions.put_frame.Goals as goal
+
+pub returns-clause-kept : goal.returns-clause-kept
+returns-clause-kept c = KeepsSound-put _ _ _ _ c.requires c.write_put.ensures

@@ -1,0 +1,5 @@
+use Rattle.ob_values.proofs.PointerLemmas.{KeepsSound-box}
+use Rattle.ob_values.proofs.regions.Regions.set_box.Goals as goal
+
+pub returns-clause-kept : goal.returns-clause-kept
+returns-clause-kept c = KeepsSound-box c.write_box.result _ _ _ _ c.requires c.write_box.ensures.ok c.write_box.ensures.err

@@ -1,0 +1,16 @@
+//! The store of values: regions of items, with all calls on them.
+#![tactic(auto)]
+
+mod freeze;
+mod read;
+mod regions;
+mod seen;
+
+pub use ob_items::{
+    AllocError, Body, Boxed, Catch, Closure, CodeKey, ErrorKind, Failure, Frame, HookError, Item,
+    Kind, OpError, PlainError, Ref, RegionKey, SetError, Taken, TextError, Thrown, Value,
+};
+pub use regions::{Regions, text_elements};
+
+#[cfg(test)]
+mod tests;
