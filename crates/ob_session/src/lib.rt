@@ -15,12 +15,11 @@ mod show;
 mod value;
 mod world;
 
-pub use answer::{CommandError, open_line};
 pub use exit::Exit;
-pub use reply::Reply;
+pub use ob_io::{
+    MemSink, MemSource, PureSource, ReadAnswer, Sink, Source, StdSink, StdSource, WriteAnswer,
+};
 pub use run::session_main;
-pub use show::reply_text;
-pub use world::{Cell, World};
 
 #[cfg(test)]
 mod tests;
