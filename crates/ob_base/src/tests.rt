@@ -2,7 +2,8 @@ ghost use Rattle.std.specs.Prelude.{◌≡◌, ◌<◌};
 
 use crate::{
     BUILTIN_NAMES, BinaryOp, Budget, Cause, Command, Event, Label, List, LostKind, NewCell,
-    PRELUDE_TEXTS, Part, PathId, Plain, PlainProp, Steps, Text, TickReport, Units,
+    PRELUDE_TEXTS, Part, PathId, Plain, PlainProp, RESERVED_WORDS, ReservedWord, Steps, Text,
+    TickReport, Units,
 };
 use std::alloc::{AllocError, Global};
 use std::marker::Brand;
@@ -252,4 +253,31 @@ fn small_types_are_plain(rt: HostRuntime) {
     assert!(rt; PRELUDE_TEXTS[6].starts_with("function (x, f) {"));
     let budget = Budget { left: 5 };
     assert_eq!(rt; budget.left, 5);
+}
+
+#[test]
+fn reserved_words_are_known_by_their_spelling(rt: HostRuntime) {
+    let rows = [
+        ("arguments", Some(ReservedWord::Arguments)),
+        ("async", Some(ReservedWord::Async)),
+        ("in", Some(ReservedWord::In)),
+        ("instanceof", Some(ReservedWord::Instanceof)),
+        ("mutable", Some(ReservedWord::Mutable)),
+        ("viewof", Some(ReservedWord::Viewof)),
+        ("yield", Some(ReservedWord::Yield)),
+        ("", None),
+        ("as", None),
+        ("from", None),
+        ("of", None),
+        ("If", None),
+        ("ifx", None),
+        ("inst", None),
+        ("été", None),
+    ];
+    for (name, word) in rows {
+        assert_eq!(rt; ReservedWord::named(name), word);
+    }
+    for word in &RESERVED_WORDS {
+        assert_eq!(rt; ReservedWord::named(word.as_str()), Some(*word));
+    }
 }

@@ -1,8 +1,6 @@
 -- Where a `/*` is not closed, no later one is.
-use Rattle.std.proofs.Common.{◌≡◌, ℕ, Bool, true, false, not, ◌||◌, ◌&&◌, ◌==◌, cond, [], ◌∷◌, ◌++◌, ◌-◌, length, take, drop, Some, None, refl, ap, sym, ◌∙◌, subst, ◌⊎◌, inl, inr}
+use Rattle.std.proofs.Common.{◌≡◌, ℕ, Bool, true, false, not, ◌||◌, ◌&&◌, ◌==◌, cond, [], ◌∷◌, ◌++◌, drop, Some, None, refl, ap, sym, ◌∙◌, subst, ◌⊎◌, inl, inr}
 use Rattle.std.specs.Prelude.{codes}
-use Rattle.std.proofs.lemmas.List.{length-drop}
-use Rattle.std.proofs.Math.Seq.{take-length}
 use Rattle.std.proofs.lemmas.Bool.{eqb-true}
 use Rattle.ob_lex.specs.declared.piece.Piece.{Piece}
 use Rattle.ob_lex.specs.declared.punctuator.Punctuator.{Punctuator}
@@ -42,17 +40,11 @@ none_holds breaks [] h = refl
 none_holds breaks (c ∷ cs) h = none_by breaks c cs (begins (codes "*/") (c ∷ cs)) refl (none_holds (breaks || is_line_end c) cs) h
 
 -- a `/*` behind which no comment is closed begins none
-pub unclosed : (b : ℕ) (after : Characters) → holds (codes "*/") (b ∷ after) ≡ false → to_close false after ≡ None
+unclosed : (b : ℕ) (after : Characters) → holds (codes "*/") (b ∷ after) ≡ false → to_close false after ≡ None
 unclosed b after h = close_none false after (or_parts (begins (codes "*/") (b ∷ after)) (holds (codes "*/") after) h)
 
-unclosed_in : (text : Characters) → holds (codes "*/") (drop 1 text) ≡ false → to_close false (drop 2 text) ≡ None
-unfolding to_close
-unclosed_in [] h = refl
-unclosed_in (a ∷ []) h = refl
-unclosed_in (a ∷ b ∷ after) h = unclosed b after h
-
-pub unclosed_after : (text : Characters) → holds (codes "*/") (drop 1 text) ≡ false → to_close false (take (length text - 2) (drop 2 text)) ≡ None
-unclosed_after text h = ap (to_close false) (ap (λ n. take n (drop 2 text)) (sym (length-drop 2 text)) ∙ take-length (drop 2 text)) ∙ unclosed_in text h
+pub unclosed_after : (text more after : Characters) (a b : ℕ) → text ≡ a ∷ more → more ≡ b ∷ after → holds (codes "*/") (drop 1 text) ≡ false → to_close false after ≡ None
+unclosed_after text more after a b e f h = unclosed b after (ap (holds (codes "*/")) (sym f ∙ sym (ap (drop 1) e)) ∙ h)
 
 holds_rest : (text : Characters) → holds (codes "*/") text ≡ false → holds (codes "*/") (drop 1 text) ≡ false
 holds_rest [] h = h

@@ -78,3 +78,17 @@ one_division text tokens others a b = let x = tokens_read text tokens a in let y
 
 pub no_division : (text : Characters) → cut (length text) false 0 text ≡ None → (tokens : List Token) → Tokens text tokens → ⊥
 no_division text e tokens h = let x = tokens_read text tokens h in cc
+
+-- ---- more turns than characters give nothing more
+
+enough_by : (n : ℕ) (breaks : Bool) (at : ℕ) (text : Characters) → length text ≤ n → (a b : Option (List Token)) → cut n breaks at text ≡ a → cut (length text) breaks at text ≡ b → a ≡ b
+enough_by n breaks at text le None None e f = refl
+enough_by n breaks at text le None (Some ts) e f =
+    let d : OnCut (Some ts) (Cuts breaks at text) = subst (λ (r : Option (List Token)). OnCut r (Cuts breaks at text)) f (is_cut (length text) breaks at text) in let g = cut_again d n le in cc
+enough_by n breaks at text le (Some ts) b e f =
+    let d : OnCut (Some ts) (Cuts breaks at text) = subst (λ (r : Option (List Token)). OnCut r (Cuts breaks at text)) e (is_cut n breaks at text) in
+    let g = cut_again d (length text) (omega arith) in
+    cc
+
+pub cut_enough : (n : ℕ) (breaks : Bool) (at : ℕ) (text : Characters) → length text ≤ n → cut n breaks at text ≡ cut (length text) breaks at text
+cut_enough n breaks at text le = enough_by n breaks at text le (cut n breaks at text) (cut (length text) breaks at text) refl refl

@@ -1,4 +1,5 @@
 pub mod Turns
+pub mod Cutting
 pub mod Classes
 pub mod Tools
 pub mod Words

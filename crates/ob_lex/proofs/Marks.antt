@@ -1,5 +1,6 @@
 -- Punctuators.
 use Rattle.std.proofs.Common.{◌≡◌, ℕ, ◌+◌, ◌≤◌, Bool, true, false, ◌||◌, ◌&&◌, ◌==◌, cond, leb, List, [], ◌∷◌, ◌++◌, length, take, drop, Option, Some, None, refl, ap, sym, ◌∙◌, arith, ◌⊎◌, inl, inr, length-append, take-append-drop}
+use Rattle.std.specs.Prelude.{bytes_eq}
 use Rattle.std.proofs.Math.Seq.{drop-append_seam}
 use Rattle.std.proofs.lemmas.Bool.{eqb-true, eq-eqb, leb-true}
 use Rattle.ob_lex.specs.declared.punctuator.Punctuator.{Punctuator}
@@ -7,7 +8,7 @@ use Rattle.ob_lex.specs.declared.punctuator.Punctuator.TheVariants as mark
 use Rattle.ob_lex.specs.Words.{mark_spelling, marks_of}
 use Rattle.ob_lex.specs.Characters.{Characters, is_white_space, is_line_end, is_digit, is_quote, begins}
 use Rattle.ob_lex.specs.Pieces.{may_precede}
-use Rattle.ob_lex.specs.Reading.{first_mark, same_text}
+use Rattle.ob_lex.specs.Reading.{first_mark}
 use Rattle.ob_lex.proofs.Classes.{both, class_of, closed_class}
 use Rattle.ob_lex.proofs.Classes as classes
 use Rattle.ob_lex.proofs.Tools.{OnRead, Took, Best, best_equal}
@@ -175,7 +176,7 @@ best_from (x ∷ ms) n m rest f h free one =
 
 abbrev find_mark : List Punctuator → Characters → Option Punctuator
 find_mark [] text = None
-find_mark (m ∷ ms) text = cond (same_text (mark_spelling m) text) (Some m) (find_mark ms text)
+find_mark (m ∷ ms) text = cond (bytes_eq (mark_spelling m) text) (Some m) (find_mark ms text)
 
 abbrev every_mark : List Punctuator
 every_mark = mark.OpenBrace ∷ mark.CloseBrace ∷ mark.OpenParenthesis ∷ mark.CloseParenthesis ∷ mark.OpenBracket ∷ mark.CloseBracket ∷ mark.Dot ∷ mark.Semicolon ∷ mark.Comma ∷ mark.Less ∷ mark.Greater ∷ mark.LessEqual ∷ mark.GreaterEqual ∷ mark.Equal ∷ mark.NotEqual ∷ mark.Same ∷ mark.NotSame ∷ mark.Plus ∷ mark.Minus ∷ mark.Star ∷ mark.Slash ∷ mark.Percent ∷ mark.StarStar ∷ mark.PlusPlus ∷ mark.MinusMinus ∷ mark.ShiftLeft ∷ mark.ShiftRight ∷ mark.ShiftRightUnsigned ∷ mark.Ampersand ∷ mark.Bar ∷ mark.Caret ∷ mark.Not ∷ mark.Tilde ∷ mark.And ∷ mark.Or ∷ mark.Coalesce ∷ mark.Question ∷ mark.QuestionDot ∷ mark.Colon ∷ mark.Assign ∷ mark.PlusAssign ∷ mark.MinusAssign ∷ mark.StarAssign ∷ mark.SlashAssign ∷ mark.PercentAssign ∷ mark.StarStarAssign ∷ mark.ShiftLeftAssign ∷ mark.ShiftRightAssign ∷ mark.ShiftRightUnsignedAssign ∷ mark.AmpersandAssign ∷ mark.BarAssign ∷ mark.CaretAssign ∷ mark.AndAssign ∷ mark.OrAssign ∷ mark.CoalesceAssign ∷ mark.Arrow ∷ mark.Ellipsis ∷ []

@@ -7,7 +7,8 @@ use Rattle.ob_lex.specs.declared.token.TokenKind.{TokenKind}
 use Rattle.ob_lex.specs.declared.token.TokenKind.TheVariants as kind
 use Rattle.ob_lex.specs.declared.piece.Piece.TheVariants as piece
 use Rattle.ob_lex.specs.Characters.{Characters, continues_name, is_digit, base_of, ends_number}
-use Rattle.ob_lex.specs.Pieces.{Digits, no_more, digit, separated, IsNumber, zero_alone, decimal, in_base, greatest, IsPiece}
+use Rattle.ob_base.specs.Integers.{greatest}
+use Rattle.ob_lex.specs.Pieces.{Digits, no_more, digit, separated, IsNumber, zero_alone, decimal, in_base, IsPiece}
 use Rattle.ob_lex.specs.Reading.{Read, digits_next, begins_digit, digits_from, number_digits, based, after_zero, ended, number_at}
 use Rattle.ob_lex.proofs.Classes.{both, digit_continues, underscore_continues}
 use Rattle.ob_lex.proofs.Tools.{OnRead, Took, on_weaker, on_equal, Best, best_same}

@@ -1,7 +1,6 @@
 -- The steps of the loops.
-use Rattle.std.proofs.Common.{◌≡◌, ◌↔◌, ℕ, suc, ◌+◌, ◌-◌, ◌≤◌, Bool, false, List, [], ◌∷◌, ◌++◌, length, take, Option, Some, None, Result, Ok, Err, IfOk, refl, ap, sym, ◌∙◌, arith, length-append, append_assoc}
+use Rattle.std.proofs.Common.{◌≡◌, ◌↔◌, ℕ, suc, ◌+◌, ◌-◌, ◌≤◌, Bool, false, List, [], ◌∷◌, ◌++◌, length, Option, Some, None, Result, Ok, Err, IfOk, refl, ap, sym, ◌∙◌, arith, append_assoc}
 use Rattle.std.proofs.lemmas.List.{append-nil}
-use Rattle.std.proofs.Math.Seq.{take-append_seam}
 use Rattle.ob_lex.specs.declared.piece.Piece.{Piece}
 use Rattle.ob_lex.specs.declared.token.Token.{Token}
 use Rattle.ob_lex.specs.declared.error.LexError.{LexError}
@@ -66,19 +65,7 @@ cut_more n breaks at len tokens rest more k le h e =
     ∙ front_twice tokens (shown k at (at + (bytes rest - bytes more)) breaks) (cut n (breaks_after k breaks) (at + (bytes rest - bytes more)) more)
     ∙ ap (λ l. with_front (tokens ++ shown k at (at + l) breaks) (cut n (breaks_after k breaks) (at + l) more)) (sym e)
 
--- the rest is shorter, and the characters before it are the front
-pub read_shorter : (text rest : Characters) (k : Piece) → piece_at text ≡ Some (k, rest) → length rest ≤ length text
-read_shorter text rest k e = let x = read_front text rest k e in omega (arith, ap length x.1.0, length-append x.0 rest)
-
-pub read_taken : (text rest : Characters) (k : Piece) → piece_at text ≡ Some (k, rest) → bytes (take (length text - length rest) text) ≡ bytes text - bytes rest
-read_taken text rest k e =
-    let x = read_front text rest k e in
-    let l : length text - length rest ≡ length x.0 = omega (arith, ap length x.1.0, length-append x.0 rest) in
-    let t : take (length text - length rest) text ≡ x.0 = ap (λ n. take n text) l ∙ ap (take (length x.0)) x.1.0 ∙ take-append_seam x.0 rest in
-    let b : bytes text ≡ bytes x.0 + bytes rest = ap bytes x.1.0 ∙ bytes_append x.0 rest in
-    let f : bytes (take (length text - length rest) text) ≡ bytes x.0 = ap bytes t in
-    omega (arith, f, b)
-
+-- the rest has no more bytes
 pub read_bytes : (text rest : Characters) (k : Piece) → piece_at text ≡ Some (k, rest) → bytes rest ≤ bytes text
 read_bytes text rest k e =
     let x = read_front text rest k e in let b : bytes text ≡ bytes x.0 + bytes rest = ap bytes x.1.0 ∙ bytes_append x.0 rest in omega (arith, b)

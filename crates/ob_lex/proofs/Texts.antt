@@ -1,5 +1,5 @@
 -- Texts in quotes.
-use Rattle.std.proofs.Common.{◌≡◌, ℕ, zero, suc, ◌≤◌, Bool, true, false, not, ◌||◌, ◌==◌, cond, List, [], ◌∷◌, ◌++◌, length, Option, Some, None, refl, ap, sym, ◌∙◌, subst, arith, inl, inr, length-append, append_assoc}
+use Rattle.std.proofs.Common.{◌≡◌, ℕ, zero, suc, ◌+◌, ◌-◌, ◌≤◌, Bool, true, false, not, ◌||◌, ◌==◌, cond, List, [], ◌∷◌, ◌++◌, length, Option, Some, None, refl, ap, sym, ◌∙◌, subst, arith, inl, inr, length-append, append_assoc}
 use Rattle.std.specs.Char.Escape.{encode_utf16}
 use Rattle.std.proofs.lemmas.Bool.{eqb-true, eq-eqb}
 use Rattle.ob_lex.specs.declared.token.TokenKind.TheVariants as kind
@@ -156,3 +156,40 @@ pub text_best : (units : List ℕ) (quote : ℕ) (cs rest : Characters) → IsTe
 text_best units quote cs rest h =
     best_same (kind.Text units) rest (text_at quote (cs ++ rest))
     (ap (read_map (λ units. kind.Text units)) (inside_again quote cs rest units h.0 h.1 (length (cs ++ rest)) (omega (arith, length-append cs rest))))
+
+-- ---- more turns than characters give nothing more
+
+element_length_by : (quote c : ℕ) (cs : Characters) (q b l : Bool)
+    → OnRead (cond q (Some (element.Closes, cs)) (cond b (read_map (λ code. element.Gives code) (escape_at cs)) (cond l None (Some (element.Gives (Some c), cs))))) (λ e rest. length rest ≤ length cs)
+element_length_by quote c cs true b l = omega arith
+element_length_by quote c cs false true l =
+    on_mapped (Escape_of cs) (λ e rest. length rest ≤ length cs) (λ code. element.Gives code) (escape_at cs) (λ code rest x. omega (arith, ap length x.1.0, length-append x.0 rest)) (escape_sound cs)
+element_length_by quote c cs false false true = tt
+element_length_by quote c cs false false false = omega arith
+
+element_length : (quote c : ℕ) (cs : Characters) → OnRead (element_at quote (c ∷ cs)) (λ e rest. length rest ≤ length cs)
+unfolding element_at
+element_length quote c cs = element_length_by quote c cs (c == quote) (c == 92) (c == 10 || c == 13)
+
+one_more_by : (n m quote : ℕ) → ((text : Characters) → length text ≤ m → inside (suc n) quote text ≡ inside n quote text) → (r : Read Element) → OnRead r (λ e rest. length rest ≤ m)
+    → then_inside r (inside (suc n) quote) ≡ then_inside r (inside n quote)
+one_more_by n m quote more None h = refl
+one_more_by n m quote more (Some (element.Closes, rest)) h = refl
+one_more_by n m quote more (Some (element.Gives code, rest)) h = ap (with_units (units_of code)) (more rest h)
+
+one_more : (n quote : ℕ) (text : Characters) → length text ≤ n → inside (suc n) quote text ≡ inside n quote text
+unfolding inside element_at
+one_more zero quote [] le = refl
+one_more zero quote (c ∷ cs) le = absurd (omega arith)
+one_more (suc n) quote [] le = refl
+one_more (suc n) quote (c ∷ cs) le =
+    one_more_by n n quote (λ text l. one_more n quote text l) (element_at quote (c ∷ cs))
+    (on_weaker (λ e rest. length rest ≤ length cs) (λ e rest. length rest ≤ n) (element_at quote (c ∷ cs)) (λ e rest l. omega arith) (element_length quote c cs))
+
+more_turns : (k n quote : ℕ) (text : Characters) → n ≡ k + length text → inside n quote text ≡ inside (length text) quote text
+more_turns zero n quote text e = let f : n ≡ length text = omega (arith, e) in ap (λ m. inside m quote text) f
+more_turns (suc k) zero quote text e = absurd (omega (arith, e))
+more_turns (suc k) (suc n) quote text e = one_more n quote text (omega (arith, e)) ∙ more_turns k n quote text (omega (arith, e))
+
+pub inside_enough : (n quote : ℕ) (text : Characters) → length text ≤ n → inside n quote text ≡ inside (length text) quote text
+inside_enough n quote text le = more_turns (n - length text) n quote text (omega arith)

@@ -1,96 +1,85 @@
 -- Names and reserved words.
-use Rattle.std.proofs.Common.{◌≡◌, ◌≢◌, ℕ, suc, ◌<◌, ◌≤◌, Bool, true, false, ◌||◌, ◌&&◌, ◌==◌, cond, List, [], ◌∷◌, ◌++◌, length, take, drop, Option, Some, None, refl, ap, sym, ◌∙◌, subst, arith, length-append, take-append-drop}
+use Rattle.std.proofs.Common.{◌≡◌, ◌≢◌, ℕ, suc, ◌<◌, ◌≤◌, Bool, true, false, ◌||◌, ◌&&◌, ◌==◌, List, [], ◌∷◌, ◌++◌, length, take, drop, Option, Some, None, refl, ap, sym, ◌∙◌, subst, arith, length-append, take-append-drop}
 use Rattle.std.proofs.lemmas.List.{length-drop}
+use Rattle.std.proofs.lemmas.Str.{encodes_same}
 use Rattle.std.proofs.Math.Seq.{take-append_seam}
-use Rattle.std.proofs.lemmas.Bool.{eqb-true}
 use Rattle.std.proofs.lemmas.Bool.Decides.{nat_tests}
 use Rattle.std.specs.Prelude.{encode_utf8_all}
 use Rattle.std.specs.Char.{is_ascii_alphabetic}
 use Rattle.unicode_ident.specs.Ident.{is_xid_start, is_xid_continue}
 use Rattle.unicode_ident.proofs.IdentLemmas.{is_xid_start-ascii, is_xid_continue-ascii}
-use Rattle.ob_lex.specs.declared.reserved.ReservedWord.{ReservedWord}
-use Rattle.ob_lex.specs.declared.reserved.ReservedWord.TheVariants as word
+use Rattle.ob_base.specs.declared.reserved.ReservedWord.{ReservedWord}
+use Rattle.ob_base.specs.declared.reserved.ReservedWord.TheVariants as word
 use Rattle.ob_lex.specs.declared.token.TokenKind.{TokenKind}
 use Rattle.ob_lex.specs.declared.token.TokenKind.TheVariants as kind
 use Rattle.ob_lex.specs.declared.piece.Piece.TheVariants as piece
-use Rattle.ob_lex.specs.Words.{spelling, every_word}
+use Rattle.ob_base.specs.Reserved.{spelling, reserved_word}
+use Rattle.ob_base.proofs.ReservedWords.{reserved_sound, reserved_found}
 use Rattle.ob_lex.specs.Characters.{Characters, starts_name, continues_name}
 use Rattle.ob_lex.specs.Pieces.{Each, IsWord, IsPiece}
-use Rattle.ob_lex.specs.Reading.{run, same_text, find_word, reserved_word, word_kind, word_at}
+use Rattle.ob_lex.specs.Reading.{run, word_kind, word_at}
 use Rattle.ob_lex.proofs.Classes.{both}
 use Rattle.ob_lex.proofs.Tools.{OnRead, Took, Best, run_each, run_most, run_length}
 
-same_by : (w c : ℕ) (ws cs : Characters) (b : Bool) → (w == c) ≡ b → (same_text ws cs ≡ true → ws ≡ cs) → (b && same_text ws cs) ≡ true → w ∷ ws ≡ c ∷ cs
-same_by w c ws cs true e more h = let q : w ≡ c = eqb-true w c e in let r : ws ≡ cs = more h in cc
-same_by w c ws cs false e more h = cc
+-- ---- the bytes of a reserved word are its characters
 
-pub same_sound : (ws cs : Characters) → same_text ws cs ≡ true → ws ≡ cs
-same_sound [] [] h = refl
-same_sound [] (c ∷ cs) h = cc
-same_sound (w ∷ ws) [] h = cc
-same_sound (w ∷ ws) (c ∷ cs) h = same_by w c ws cs (w == c) refl (same_sound ws cs) h
+spelling_encoded : (w : ReservedWord) → encode_utf8_all (spelling w) ≡ spelling w
+unfolding spelling lib.Utf8.encode
+spelling_encoded word.Arguments = refl
+spelling_encoded word.Async = refl
+spelling_encoded word.Await = refl
+spelling_encoded word.Break = refl
+spelling_encoded word.Case = refl
+spelling_encoded word.Catch = refl
+spelling_encoded word.Class = refl
+spelling_encoded word.Const = refl
+spelling_encoded word.Continue = refl
+spelling_encoded word.Debugger = refl
+spelling_encoded word.Default = refl
+spelling_encoded word.Delete = refl
+spelling_encoded word.Do = refl
+spelling_encoded word.Else = refl
+spelling_encoded word.Enum = refl
+spelling_encoded word.Export = refl
+spelling_encoded word.Extends = refl
+spelling_encoded word.False = refl
+spelling_encoded word.Finally = refl
+spelling_encoded word.For = refl
+spelling_encoded word.Function = refl
+spelling_encoded word.If = refl
+spelling_encoded word.Import = refl
+spelling_encoded word.In = refl
+spelling_encoded word.Instanceof = refl
+spelling_encoded word.Let = refl
+spelling_encoded word.Mutable = refl
+spelling_encoded word.New = refl
+spelling_encoded word.Null = refl
+spelling_encoded word.Return = refl
+spelling_encoded word.Static = refl
+spelling_encoded word.Super = refl
+spelling_encoded word.Switch = refl
+spelling_encoded word.This = refl
+spelling_encoded word.Throw = refl
+spelling_encoded word.True = refl
+spelling_encoded word.Try = refl
+spelling_encoded word.Typeof = refl
+spelling_encoded word.Undefined = refl
+spelling_encoded word.Var = refl
+spelling_encoded word.Viewof = refl
+spelling_encoded word.Void = refl
+spelling_encoded word.While = refl
+spelling_encoded word.With = refl
+spelling_encoded word.Yield = refl
 
-found_by : (w x : ReservedWord) (ws : List ReservedWord) (name : Characters) (b : Bool) → same_text (spelling x) name ≡ b → (find_word ws name ≡ Some w → name ≡ spelling w)
-    → cond b (Some x) (find_word ws name) ≡ Some w → name ≡ spelling w
-found_by w x ws name true e more h = let q : x ≡ w = cc in sym (same_sound (spelling x) name e) ∙ ap spelling q
-found_by w x ws name false e more h = more h
+encoded_by : (name : Characters) (a b : Option ReservedWord) → reserved_word (encode_utf8_all name) ≡ a → reserved_word name ≡ b → a ≡ b
+encoded_by name None None e f = refl
+encoded_by name None (Some w) e f =
+    let h = ap encode_utf8_all (reserved_sound w name f) ∙ spelling_encoded w in let k = ap reserved_word h in let l = reserved_found w in cc
+encoded_by name (Some w) b e f =
+    let h = encodes_same name (spelling w) (reserved_sound w (encode_utf8_all name) e ∙ sym (spelling_encoded w)) in let k = ap reserved_word h in let l = reserved_found w in cc
 
-found : (w : ReservedWord) (ws : List ReservedWord) (name : Characters) → find_word ws name ≡ Some w → name ≡ spelling w
-found w [] name h = cc
-found w (x ∷ ws) name h = found_by w x ws name (same_text (spelling x) name) refl (found w ws name) h
-
-pub reserved_sound : (w : ReservedWord) (name : Characters) → reserved_word name ≡ Some w → name ≡ spelling w
-unfolding reserved_word
-reserved_sound w name h = found w every_word name h
-
--- each reserved word is found
-pub reserved_found : (w : ReservedWord) → reserved_word (spelling w) ≡ Some w
-unfolding reserved_word spelling
-reserved_found word.Arguments = refl
-reserved_found word.Async = refl
-reserved_found word.Await = refl
-reserved_found word.Break = refl
-reserved_found word.Case = refl
-reserved_found word.Catch = refl
-reserved_found word.Class = refl
-reserved_found word.Const = refl
-reserved_found word.Continue = refl
-reserved_found word.Debugger = refl
-reserved_found word.Default = refl
-reserved_found word.Delete = refl
-reserved_found word.Do = refl
-reserved_found word.Else = refl
-reserved_found word.Enum = refl
-reserved_found word.Export = refl
-reserved_found word.Extends = refl
-reserved_found word.False = refl
-reserved_found word.Finally = refl
-reserved_found word.For = refl
-reserved_found word.Function = refl
-reserved_found word.If = refl
-reserved_found word.Import = refl
-reserved_found word.In = refl
-reserved_found word.Instanceof = refl
-reserved_found word.Let = refl
-reserved_found word.Mutable = refl
-reserved_found word.New = refl
-reserved_found word.Null = refl
-reserved_found word.Return = refl
-reserved_found word.Static = refl
-reserved_found word.Super = refl
-reserved_found word.Switch = refl
-reserved_found word.This = refl
-reserved_found word.Throw = refl
-reserved_found word.True = refl
-reserved_found word.Try = refl
-reserved_found word.Typeof = refl
-reserved_found word.Undefined = refl
-reserved_found word.Var = refl
-reserved_found word.Viewof = refl
-reserved_found word.Void = refl
-reserved_found word.While = refl
-reserved_found word.With = refl
-reserved_found word.Yield = refl
+pub reserved_encoded : (name : Characters) → reserved_word (encode_utf8_all name) ≡ reserved_word name
+reserved_encoded name = encoded_by name (reserved_word (encode_utf8_all name)) (reserved_word name) refl refl
 
 -- ---- reserved words are words
 

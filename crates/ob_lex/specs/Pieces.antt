@@ -3,13 +3,15 @@ use Rattle.std.specs.Prelude.{◌≡◌, ◌≢◌, ℕ, pos, negsuc, ◌+◌, �
 use Rattle.std.specs.List.{list_any}
 use Rattle.std.specs.Char.{digit_value}
 use Rattle.std.specs.Char.Escape.{encode_utf16}
-use Rattle.ob_lex.specs.declared.reserved.ReservedWord.{ReservedWord}
+use Rattle.ob_base.specs.declared.reserved.ReservedWord.{ReservedWord}
+use Rattle.ob_base.specs.Reserved.{spelling}
+use Rattle.ob_base.specs.Integers.{greatest}
 use Rattle.ob_lex.specs.declared.punctuator.Punctuator.{Punctuator}
 use Rattle.ob_lex.specs.declared.punctuator.Punctuator.TheVariants.{QuestionDot}
 use Rattle.ob_lex.specs.declared.token.TokenKind.TheVariants as kind
 use Rattle.ob_lex.specs.declared.piece.Piece.{Piece}
 use Rattle.ob_lex.specs.declared.piece.Piece.TheVariants as piece
-use Rattle.ob_lex.specs.Words.{spelling, mark_spelling}
+use Rattle.ob_lex.specs.Words.{mark_spelling}
 use Rattle.ob_lex.specs.Characters.{Characters, is_white_space, is_line_end, starts_name, continues_name, is_digit, is_quote, base_of, is_plain, is_escaped, escaped, begins_with_digit, ends_number, holds}
 
 -- each character passes the test
@@ -46,10 +48,6 @@ pub data IsNumber : Characters → ℕ → Type 0 where
   decimal : (d n : ℕ) (ds : Characters) → is_digit 10 d ≡ true → (d == 48) ≡ false → Digits 10 (digit_value d) ds n → IsNumber (d ∷ ds) n
   in_base : (x base d n : ℕ) (ds : Characters) → base_of x ≡ Some base → is_digit base d ≡ true → Digits base (digit_value d) ds n
       → IsNumber (48 ∷ x ∷ d ∷ ds) n
-
--- the greatest number, 2^53-1 (ECMA-262, "Number.MAX_SAFE_INTEGER")
-abbrev pub greatest : ℕ
-greatest = 9007199254740991
 
 -- the value of hexadecimal digits after digits of a value
 abbrev pub hex_value : ℕ → Characters → ℕ

@@ -1,8 +1,9 @@
 -- The tokens as functions that read the text from the left. The laws in `proofs/` say that they give the pieces of `Pieces.antt` and the
 -- tokens of `Tokens.antt`, and all of them; the code gives what they give.
-use Rattle.std.specs.Prelude.{◌≡◌, ◌≤◌, ℕ, zero, suc, pos, ◌+◌, ◌-◌, ◌*◌, Bool, true, false, not, ◌||◌, ◌&&◌, ◌==◌, nat_le, List, [], ◌∷◌, ◌++◌, length, take, drop, codes, encode_utf8_all, Option, Some, None, option_map, if◌then◌else◌, Result, Ok, Err}
+use Rattle.std.specs.Prelude.{◌≡◌, ◌≤◌, ℕ, zero, suc, pos, ◌+◌, ◌-◌, ◌*◌, Bool, false, not, ◌||◌, ◌&&◌, ◌==◌, nat_le, List, [], ◌∷◌, ◌++◌, length, take, drop, codes, encode_utf8_all, Option, Some, None, option_map, if◌then◌else◌, Result, Ok, Err}
 use Rattle.std.specs.Char.{digit_value}
-use Rattle.ob_lex.specs.declared.reserved.ReservedWord.{ReservedWord}
+use Rattle.ob_base.specs.declared.reserved.ReservedWord.{ReservedWord}
+use Rattle.ob_base.specs.Reserved.{reserved_word}
 use Rattle.ob_lex.specs.declared.punctuator.Punctuator.{Punctuator}
 use Rattle.ob_lex.specs.declared.token.TokenKind.{TokenKind}
 use Rattle.ob_lex.specs.declared.token.TokenKind.TheVariants as kind
@@ -13,9 +14,10 @@ use Rattle.ob_lex.specs.declared.quoted.Element.{Element}
 use Rattle.ob_lex.specs.declared.quoted.Element.TheVariants as element
 use Rattle.ob_lex.specs.declared.error.LexError.{LexError}
 use Rattle.ob_lex.specs.declared.error.LexError.TheVariants as errors
-use Rattle.ob_lex.specs.Words.{spelling, every_word, mark_spelling, marks_of}
+use Rattle.ob_lex.specs.Words.{mark_spelling, marks_of}
 use Rattle.ob_lex.specs.Characters.{Characters, bytes, is_white_space, is_line_end, starts_name, continues_name, is_digit, is_quote, base_of, escaped, begins_with_digit, ends_number, begins}
-use Rattle.ob_lex.specs.Pieces.{greatest, units_of, may_precede}
+use Rattle.ob_base.specs.Integers.{greatest}
+use Rattle.ob_lex.specs.Pieces.{units_of, may_precede}
 use Rattle.ob_lex.specs.Tokens.{breaks_after, shown}
 
 -- what is read at the front of a text, and the rest
@@ -32,19 +34,6 @@ run test [] = 0
 run test (c ∷ cs) = if test c then suc (run test cs) else 0
 
 -- ---- words
-
-abbrev pub same_text : Characters → Characters → Bool
-same_text [] [] = true
-same_text [] (c ∷ cs) = false
-same_text (w ∷ ws) [] = false
-same_text (w ∷ ws) (c ∷ cs) = w == c && same_text ws cs
-
-abbrev pub find_word : List ReservedWord → Characters → Option ReservedWord
-find_word [] name = None
-find_word (w ∷ ws) name = if same_text (spelling w) name then Some w else find_word ws name
-
-unfoldable pub reserved_word : Characters → Option ReservedWord
-reserved_word name = find_word every_word name
 
 abbrev pub word_kind : Characters → Option ReservedWord → TokenKind
 word_kind name None = kind.Name (encode_utf8_all name)

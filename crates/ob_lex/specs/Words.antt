@@ -1,67 +1,7 @@
--- The reserved words and the punctuators, and how each is written.
+-- The punctuators, and how each is written.
 use Rattle.std.specs.Prelude.{ℕ, ◌==◌, List, [], ◌∷◌, codes, if◌then◌else◌}
-use Rattle.ob_lex.specs.declared.reserved.ReservedWord.{ReservedWord}
-use Rattle.ob_lex.specs.declared.reserved.ReservedWord.TheVariants as word
 use Rattle.ob_lex.specs.declared.punctuator.Punctuator.{Punctuator}
 use Rattle.ob_lex.specs.declared.punctuator.Punctuator.TheVariants as mark
-
--- the characters of a reserved word
-unfoldable pub spelling : ReservedWord → List ℕ
-spelling word.Arguments = codes "arguments"
-spelling word.Async = codes "async"
-spelling word.Await = codes "await"
-spelling word.Break = codes "break"
-spelling word.Case = codes "case"
-spelling word.Catch = codes "catch"
-spelling word.Class = codes "class"
-spelling word.Const = codes "const"
-spelling word.Continue = codes "continue"
-spelling word.Debugger = codes "debugger"
-spelling word.Default = codes "default"
-spelling word.Delete = codes "delete"
-spelling word.Do = codes "do"
-spelling word.Else = codes "else"
-spelling word.Enum = codes "enum"
-spelling word.Export = codes "export"
-spelling word.Extends = codes "extends"
-spelling word.False = codes "false"
-spelling word.Finally = codes "finally"
-spelling word.For = codes "for"
-spelling word.Function = codes "function"
-spelling word.If = codes "if"
-spelling word.Import = codes "import"
-spelling word.In = codes "in"
-spelling word.Instanceof = codes "instanceof"
-spelling word.Let = codes "let"
-spelling word.Mutable = codes "mutable"
-spelling word.New = codes "new"
-spelling word.Null = codes "null"
-spelling word.Return = codes "return"
-spelling word.Static = codes "static"
-spelling word.Super = codes "super"
-spelling word.Switch = codes "switch"
-spelling word.This = codes "this"
-spelling word.Throw = codes "throw"
-spelling word.True = codes "true"
-spelling word.Try = codes "try"
-spelling word.Typeof = codes "typeof"
-spelling word.Undefined = codes "undefined"
-spelling word.Var = codes "var"
-spelling word.Viewof = codes "viewof"
-spelling word.Void = codes "void"
-spelling word.While = codes "while"
-spelling word.With = codes "with"
-spelling word.Yield = codes "yield"
-
--- each reserved word
-abbrev pub every_word : List ReservedWord
-every_word =
-    word.Arguments ∷ word.Async ∷ word.Await ∷ word.Break ∷ word.Case ∷ word.Catch ∷ word.Class ∷ word.Const
-    ∷ word.Continue ∷ word.Debugger ∷ word.Default ∷ word.Delete ∷ word.Do ∷ word.Else ∷ word.Enum ∷ word.Export
-    ∷ word.Extends ∷ word.False ∷ word.Finally ∷ word.For ∷ word.Function ∷ word.If ∷ word.Import ∷ word.In
-    ∷ word.Instanceof ∷ word.Let ∷ word.Mutable ∷ word.New ∷ word.Null ∷ word.Return ∷ word.Static ∷ word.Super
-    ∷ word.Switch ∷ word.This ∷ word.Throw ∷ word.True ∷ word.Try ∷ word.Typeof ∷ word.Undefined ∷ word.Var
-    ∷ word.Viewof ∷ word.Void ∷ word.While ∷ word.With ∷ word.Yield ∷ []
 
 -- the characters of a punctuator
 unfoldable pub mark_spelling : Punctuator → List ℕ

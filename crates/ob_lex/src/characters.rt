@@ -1,7 +1,9 @@
 //! What a character may be part of.
 
-ghost use Rattle.std.specs.Prelude.{◌≡◌, ◌≤◌, ◌<◌, IfSome};
+ghost use Rattle.std.specs.Prelude.{◌≡◌, ◌≤◌, ◌<◌, chars, IfSome};
 ghost use Rattle.ob_lex.specs.Characters as spec;
+
+use crate::splits::split_first;
 
 #[tactic(auto, unfolding(crate::specs::Characters::is_white_space))]
 pub fn is_white_space(c: char) -> bool
@@ -107,21 +109,21 @@ pub fn escaped(c: char) -> u32
 }
 
 /// Whether a text begins with a decimal digit.
-pub fn begins_with_digit(characters: &[char]) -> bool
-    ensures { result ≡ spec.begins_with_digit characters.now }
+pub fn begins_with_digit(text: &str) -> bool
+    ensures { result ≡ spec.begins_with_digit (chars text.now) }
 {
-    match characters {
-        [] => false,
-        [first, ..] => is_decimal(*first),
+    match split_first(text) {
+        None => false,
+        Some((first, _)) => is_decimal(first),
     }
 }
 
 /// Whether a number may end before a text.
-pub fn ends_number(characters: &[char]) -> bool
-    ensures { result ≡ spec.ends_number characters.now }
+pub fn ends_number(text: &str) -> bool
+    ensures { result ≡ spec.ends_number (chars text.now) }
 {
-    match characters {
-        [] => true,
-        [first, ..] => !(continues_name(*first) || *first == '.'),
+    match split_first(text) {
+        None => true,
+        Some((first, _)) => !(continues_name(first) || first == '.'),
     }
 }

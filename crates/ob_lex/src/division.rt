@@ -1,6 +1,6 @@
 //! The division of a text.
 
-ghost use Rattle.std.specs.Prelude.{◌≡◌, ◌<◌, ◌^◌, ◌++◌, length, false, OnOk};
+ghost use Rattle.std.specs.Prelude.{◌≡◌, ◌<◌, ◌^◌, ◌++◌, chars, length, false, OnOk};
 ghost use Rattle.ob_lex.specs.Characters.{bytes};
 ghost use Rattle.ob_lex.specs.Closing as closing;
 ghost use Rattle.ob_lex.specs.Tokens as division;
@@ -8,15 +8,16 @@ ghost use Rattle.ob_lex.specs.Reading as spec;
 ghost use Rattle.ob_lex.specs.Reading.{Gives};
 
 use crate::piece::read_piece;
-use crate::scan::begins;
+use crate::scan::strip;
+use crate::splits::{byte_len, is_empty};
 use crate::{LexError, Piece, Token};
 use ob_base::{List, NoMemory};
 use std::alloc::Global;
 
-/// The tokens of these characters.
-pub fn divide(alloc: Global, text: &[char]) -> Result<List<Token>, LexError>
-    requires { bytes text.now < 2 ^ 32 }
-    ensures { Gives (λ tokens. tokens) result (spec.cut (length text.now) false 0 text.now) }
+/// The tokens of a text of fewer than 2^32 bytes.
+pub fn divide(alloc: Global, text: &str) -> Result<List<Token>, LexError>
+    requires { bytes (chars text.now) < 2 ^ 32 }
+    ensures { Gives (λ tokens. tokens) result (spec.cut (length text.now) false 0 (chars text.now)) }
 {
     let mut tokens = List::new(alloc);
     let mut rest = text;
@@ -24,14 +25,16 @@ pub fn divide(alloc: Global, text: &[char]) -> Result<List<Token>, LexError>
     let mut breaks = false;
     let mut closes = true;
     for _turn in 0..text.len() {
-        if rest.is_empty() {
+        if is_empty(rest) {
             return Ok(tokens);
         }
         let (kind, more) = match read_piece(alloc, closes, rest) {
             Ok(read) => read,
             Err(error) => return Err(error),
         };
-        let end = at + byte_len(&rest[..rest.len() - more.len()]);
+        let from = byte_len(rest);
+        let to = byte_len(more);
+        let end = at + (from - to) as u32;
         let after = breaks_after(&kind, breaks);
         closes = closes_after(closes, rest, &kind);
         push(&mut tokens, kind, at, end, breaks)?;
@@ -39,7 +42,7 @@ pub fn divide(alloc: Global, text: &[char]) -> Result<List<Token>, LexError>
         at = end;
         rest = more;
     }
-    if rest.is_empty() {
+    if is_empty(rest) {
         Ok(tokens)
     } else {
         Err(LexError::Bad)
@@ -77,20 +80,8 @@ fn breaks_after(kind: &Piece, breaks: bool) -> bool
     }
 }
 
-fn closes_after(closes: bool, text: &[char], kind: &Piece) -> bool
-    ensures { result ≡ closing.closes_after closes text.now kind.now }
+fn closes_after(closes: bool, text: &str, kind: &Piece) -> bool
+    ensures { result ≡ closing.closes_after closes (chars text.now) kind.now }
 {
-    closes && (matches!(kind, Piece::Comment(_)) || !begins(b"/*", text))
-}
-
-/// How many bytes the characters take.
-fn byte_len(text: &[char]) -> u32
-    requires { bytes text.now < 2 ^ 32 }
-    ensures { result ≡ bytes text.now }
-{
-    let mut len = 0;
-    for c in text {
-        len += c.len_utf8() as u32;
-    }
-    len
+    closes && (matches!(kind, Piece::Comment(_)) || strip(b"/*", text).is_none())
 }

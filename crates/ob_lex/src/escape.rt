@@ -1,45 +1,42 @@
 //! What stands after a backslash.
 
-ghost use Rattle.std.specs.Prelude.{◌≡◌, ◌≤◌, ◌<◌, ◌∷◌, option_map, IfSome};
+ghost use Rattle.std.specs.Prelude.{◌≡◌, ◌≤◌, ◌<◌, chars, option_map, IfSome};
 ghost use Rattle.ob_lex.specs.Characters as characters;
 ghost use Rattle.ob_lex.specs.Reading as spec;
 
 use crate::characters::{begins_with_digit, digit_of, escaped, is_decimal, is_line_end};
+use crate::splits::split_first;
 
 /// The code point that an escape gives, none where a line goes on, and the rest.
 #[tactic(auto, unfolding(crate::specs::Reading::escape_at))]
-pub fn escape(text: &[char]) -> Option<(Option<u32>, &[char])>
-    ensures value { spec.escape_at text.now ≡ option_map (λ p. (p.0, p.1.now)) result }
+pub fn escape(text: &str) -> Option<(Option<u32>, &str)>
+    ensures value { spec.escape_at (chars text.now) ≡ option_map (λ p. (p.0, chars p.1.now)) result }
     ensures within { IfSome result (λ p. IfSome p.0 (λ code. code ≤ 0x10FFFF)) }
 {
-    match text {
-        [] => None,
-        [c, after @ ..] => {
-            if is_line_end(*c) {
-                Some((None, after_line_end(*c, after)))
-            } else if *c == 'x' {
-                two_digits(after)
-            } else if *c == 'u' {
-                unicode(after)
-            } else if is_decimal(*c) {
-                if *c == '0' && !begins_with_digit(after) {
-                    Some((Some(0), after))
-                } else {
-                    None
-                }
-            } else {
-                Some((Some(escaped(*c)), after))
-            }
+    let (c, after) = split_first(text)?;
+    if is_line_end(c) {
+        Some((None, after_line_end(c, after)))
+    } else if c == 'x' {
+        two_digits(after)
+    } else if c == 'u' {
+        unicode(after)
+    } else if is_decimal(c) {
+        if c == '0' && !begins_with_digit(after) {
+            Some((Some(0), after))
+        } else {
+            None
         }
+    } else {
+        Some((Some(escaped(c)), after))
     }
 }
 
-fn after_line_end(c: char, text: &[char]) -> &[char]
-    ensures { result.now ≡ spec.after_line_end c text.now }
+fn after_line_end(c: char, text: &str) -> &str
+    ensures { chars result.now ≡ spec.after_line_end c (chars text.now) }
 {
-    match text {
-        [] => text,
-        [d, after @ ..] => { if c == '\r' && *d == '\n' { after } else { text } }
+    match split_first(text) {
+        None => text,
+        Some((d, after)) => { if c == '\r' && d == '\n' { after } else { text } }
     }
 }
 
@@ -50,71 +47,61 @@ fn hex(c: char) -> Option<u32>
     digit_of(16, c)
 }
 
-fn two_digits(text: &[char]) -> Option<(Option<u32>, &[char])>
-    ensures value { spec.two_digits text.now ≡ option_map (λ p. (p.0, p.1.now)) result }
+fn two_digits(text: &str) -> Option<(Option<u32>, &str)>
+    ensures value { spec.two_digits (chars text.now) ≡ option_map (λ p. (p.0, chars p.1.now)) result }
     ensures within { IfSome result (λ p. IfSome p.0 (λ code. code ≤ 0x10FFFF)) }
 {
-    match text {
-        [a, b, after @ ..] => {
-            let code = hex(*a)? * 16 + hex(*b)?;
-            Some((Some(code), after))
-        }
-        _ => None,
+    let (a, more) = split_first(text)?;
+    let (b, after) = split_first(more)?;
+    let code = hex(a)? * 16 + hex(b)?;
+    Some((Some(code), after))
+}
+
+fn unicode(text: &str) -> Option<(Option<u32>, &str)>
+    ensures value { spec.unicode_at (chars text.now) ≡ option_map (λ p. (p.0, chars p.1.now)) result }
+    ensures within { IfSome result (λ p. IfSome p.0 (λ code. code ≤ 0x10FFFF)) }
+{
+    let (c, after) = split_first(text)?;
+    if c == '{' {
+        in_braces(after)
+    } else {
+        four_digits(text)
     }
 }
 
-fn unicode(text: &[char]) -> Option<(Option<u32>, &[char])>
-    ensures value { spec.unicode_at text.now ≡ option_map (λ p. (p.0, p.1.now)) result }
+fn four_digits(text: &str) -> Option<(Option<u32>, &str)>
+    ensures value { spec.four_digits (chars text.now) ≡ option_map (λ p. (p.0, chars p.1.now)) result }
     ensures within { IfSome result (λ p. IfSome p.0 (λ code. code ≤ 0x10FFFF)) }
 {
-    match text {
-        [] => None,
-        [c, after @ ..] => {
-            if *c == '{' {
-                in_braces(after)
-            } else {
-                four_digits(text)
-            }
-        }
+    let (a, from_b) = split_first(text)?;
+    let (b, from_c) = split_first(from_b)?;
+    let (c, from_d) = split_first(from_c)?;
+    let (d, after) = split_first(from_d)?;
+    let high = hex(a)? * 16 + hex(b)?;
+    let low = hex(c)? * 16 + hex(d)?;
+    Some((Some(high * 256 + low), after))
+}
+
+fn in_braces(text: &str) -> Option<(Option<u32>, &str)>
+    ensures value { spec.in_braces (chars text.now) ≡ option_map (λ p. (p.0, chars p.1.now)) result }
+    ensures within { IfSome result (λ p. IfSome p.0 (λ code. code ≤ 0x10FFFF)) }
+{
+    let (d, after) = split_first(text)?;
+    match hex(d) {
+        Some(digit) => to_brace(digit, after),
+        None => None,
     }
 }
 
-fn four_digits(text: &[char]) -> Option<(Option<u32>, &[char])>
-    ensures value { spec.four_digits text.now ≡ option_map (λ p. (p.0, p.1.now)) result }
-    ensures within { IfSome result (λ p. IfSome p.0 (λ code. code ≤ 0x10FFFF)) }
-{
-    match text {
-        [a, b, c, d, after @ ..] => {
-            let high = hex(*a)? * 16 + hex(*b)?;
-            let low = hex(*c)? * 16 + hex(*d)?;
-            Some((Some(high * 256 + low), after))
-        }
-        _ => None,
-    }
-}
-
-fn in_braces(text: &[char]) -> Option<(Option<u32>, &[char])>
-    ensures value { spec.in_braces text.now ≡ option_map (λ p. (p.0, p.1.now)) result }
-    ensures within { IfSome result (λ p. IfSome p.0 (λ code. code ≤ 0x10FFFF)) }
-{
-    match text {
-        [] => None,
-        [d, after @ ..] => match hex(*d) {
-            Some(digit) => to_brace(digit, after),
-            None => None,
-        },
-    }
-}
-
-fn to_brace(first: u32, text: &[char]) -> Option<(Option<u32>, &[char])>
+fn to_brace(first: u32, text: &str) -> Option<(Option<u32>, &str)>
     requires { first ≤ 0x10FFFF }
-    ensures value { spec.to_brace first text.now ≡ option_map (λ p. (p.0, p.1.now)) result }
+    ensures value { spec.to_brace first (chars text.now) ≡ option_map (λ p. (p.0, chars p.1.now)) result }
     ensures within { IfSome result (λ p. IfSome p.0 (λ code. code ≤ 0x10FFFF)) }
 {
     let mut code = first;
     let mut rest = text;
-    while let [c, after @ ..] = rest {
-        match hex(*c) {
+    while let Some((c, after)) = split_first(rest) {
+        match hex(c) {
             Some(digit) => {
                 code = code * 16 + digit;
                 if code > 0x10_FFFF {
@@ -122,7 +109,7 @@ fn to_brace(first: u32, text: &[char]) -> Option<(Option<u32>, &[char])>
                 }
             }
             None => {
-                return if *c == '}' {
+                return if c == '}' {
                     Some((Some(code), after))
                 } else {
                     None

@@ -3,7 +3,6 @@
 #![tactic(auto)]
 
 ghost use Rattle.std.specs.Prelude.{◌≡◌, ◌<◌, ◌^◌, ◌↔◌, Some, length, chars, false, IfOk, List, ℕ};
-ghost use Rattle.ob_lex.specs.Characters.{bytes};
 ghost use Rattle.ob_lex.specs.Tokens.{Tokens};
 ghost use Rattle.ob_lex.specs.declared.token.Token.{Token};
 ghost use Rattle.ob_lex.specs.Reading as spec;
@@ -18,17 +17,16 @@ mod number;
 mod piece;
 mod punctuator;
 mod quoted;
-mod reserved;
 mod scan;
+mod splits;
 mod token;
 mod word;
 
 use division::divide;
 pub use error::LexError;
-use ob_base::{List, NoMemory};
+use ob_base::List;
 pub use piece::Piece;
 pub use punctuator::Punctuator;
-pub use reserved::{RESERVED_WORDS, ReservedWord};
 use std::alloc::Global;
 pub use token::{Token, TokenKind};
 
@@ -46,8 +44,7 @@ pub fn lex(alloc: Global, text: &str) -> Result<List<Token>, LexError>
     // The answer as it is computed from the text.
     ensures exact { Gives (λ tokens. tokens) result (spec.cut (length (chars text.now)) false 0 (chars text.now)) }
 {
-    let characters = decoded(alloc, text)?;
-    divide(alloc, &characters)
+    divide(alloc, text)
 }
 
 /// A text has at most one division into tokens.
@@ -59,14 +56,6 @@ pub fn one_division()
 pub fn reading_is_exact()
     ensures { (text : List ℕ) (tokens : List Token) → (spec.cut (length text) false 0 text ≡ Some tokens) ↔ Tokens text tokens }
 {}
-
-fn decoded(alloc: Global, text: &str) -> Result<Vec<char>, NoMemory>
-    requires { length text.now < 2 ^ 32 }
-    ensures characters { IfOk result (λ v. v.items ≡ chars text.now) }
-    ensures bytes { IfOk result (λ v. bytes v.items < 2 ^ 32) }
-{
-    Ok(text.chars().collect(alloc)?)
-}
 
 #[cfg(test)]
 mod tests;

@@ -1,19 +1,20 @@
 //! Numbers.
 
-ghost use Rattle.std.specs.Prelude.{◌≡◌, ◌≤◌, ◌<◌, option_map, IfSome};
+ghost use Rattle.std.specs.Prelude.{◌≡◌, ◌≤◌, ◌<◌, chars, option_map, IfSome};
 ghost use Rattle.ob_lex.specs.Characters as characters;
-ghost use Rattle.ob_lex.specs.Pieces.{greatest};
+ghost use Rattle.ob_base.specs.Integers.{greatest};
 ghost use Rattle.ob_lex.specs.Reading as spec;
 ghost use Rattle.ob_lex.specs.Reading.{Gives};
 
-use crate::characters::{base_of, digit_of, ends_number};
+use crate::characters::{base_of, digit_of, ends_number, is_digit};
+use crate::splits::split_first;
 use crate::{LexError, TokenKind};
 use ob_base::MAX_INTEGER;
 
 /// The number that begins with a digit, and the rest.
 #[tactic(auto, unfolding(crate::specs::Reading::number_at))]
-pub fn number<'a>(first: char, after: &'a [char]) -> Result<(TokenKind, &'a [char]), LexError>
-    ensures { Gives (λ p. (p.0, p.1.now)) result (spec.number_at first after.now) }
+pub fn number(first: char, after: &str) -> Result<(TokenKind, &str), LexError>
+    ensures { Gives (λ p. (p.0, chars p.1.now)) result (spec.number_at first (chars after.now)) }
 {
     let read = if first == '0' {
         after_zero(after)
@@ -32,26 +33,26 @@ pub fn number<'a>(first: char, after: &'a [char]) -> Result<(TokenKind, &'a [cha
     }
 }
 
-fn after_zero(text: &[char]) -> Option<(u64, &[char])>
-    ensures value { spec.after_zero text.now ≡ option_map (λ p. (p.0, p.1.now)) result }
+fn after_zero(text: &str) -> Option<(u64, &str)>
+    ensures value { spec.after_zero (chars text.now) ≡ option_map (λ p. (p.0, chars p.1.now)) result }
     ensures within { IfSome result (λ p. p.0 ≤ greatest) }
 {
-    match text {
-        [] => Some((0, text)),
-        [x, after @ ..] => match base_of(*x) {
+    match split_first(text) {
+        None => Some((0, text)),
+        Some((x, after)) => match base_of(x) {
             None => Some((0, text)),
-            Some(base) => match after {
-                [] => None,
-                [d, ds @ ..] => first_digit(base, *d, ds),
-            },
+            Some(base) => {
+                let (d, ds) = split_first(after)?;
+                first_digit(base, d, ds)
+            }
         },
     }
 }
 
-fn first_digit<'a>(base: u32, first: char, after: &'a [char]) -> Option<(u64, &'a [char])>
+fn first_digit(base: u32, first: char, after: &str) -> Option<(u64, &str)>
     requires low { 2 ≤ base }
     requires high { base ≤ 36 }
-    ensures value { spec.number_digits base first after.now ≡ option_map (λ p. (p.0, p.1.now)) result }
+    ensures value { spec.number_digits base first (chars after.now) ≡ option_map (λ p. (p.0, chars p.1.now)) result }
     ensures within { IfSome result (λ p. p.0 ≤ greatest) }
 {
     match digit_of(base, first) {
@@ -61,17 +62,17 @@ fn first_digit<'a>(base: u32, first: char, after: &'a [char]) -> Option<(u64, &'
 }
 
 /// The digits of the base that follow digits of a value, and single `_` between them.
-fn digits_from(base: u32, first: u64, text: &[char]) -> Option<(u64, &[char])>
+fn digits_from(base: u32, first: u64, text: &str) -> Option<(u64, &str)>
     requires low { 2 ≤ base }
     requires high { base ≤ 36 }
     requires within { first ≤ greatest }
-    ensures value { spec.digits_from base first text.now ≡ option_map (λ p. (p.0, p.1.now)) result }
+    ensures value { spec.digits_from base first (chars text.now) ≡ option_map (λ p. (p.0, chars p.1.now)) result }
     ensures within { IfSome result (λ p. p.0 ≤ greatest) }
 {
     let mut value = first;
     let mut rest = text;
-    while let [c, after @ ..] = rest {
-        match digit_of(base, *c) {
+    while let Some((c, after)) = split_first(rest) {
+        match digit_of(base, c) {
             Some(digit) => {
                 value = value * u64::from(base) + u64::from(digit);
                 if value > MAX_INTEGER as u64 {
@@ -79,7 +80,7 @@ fn digits_from(base: u32, first: u64, text: &[char]) -> Option<(u64, &[char])>
                 }
             }
             None => {
-                if *c != '_' || !begins_digit(base, after) {
+                if c != '_' || !begins_digit(base, after) {
                     return Some((value, rest));
                 }
             }
@@ -89,13 +90,13 @@ fn digits_from(base: u32, first: u64, text: &[char]) -> Option<(u64, &[char])>
     Some((value, rest))
 }
 
-fn begins_digit(base: u32, text: &[char]) -> bool
+fn begins_digit(base: u32, text: &str) -> bool
     requires low { 2 ≤ base }
     requires high { base ≤ 36 }
-    ensures { result ≡ spec.begins_digit base text.now }
+    ensures { result ≡ spec.begins_digit base (chars text.now) }
 {
-    match text {
-        [] => false,
-        [c, ..] => crate::characters::is_digit(base, *c),
+    match split_first(text) {
+        None => false,
+        Some((c, _)) => is_digit(base, c),
     }
 }

@@ -1,6 +1,6 @@
 //! The piece at the front of a text.
 
-ghost use Rattle.std.specs.Prelude.{◌≡◌, ◌∷◌, List, ℕ, Option};
+ghost use Rattle.std.specs.Prelude.{◌≡◌, chars, List, ℕ, Option};
 ghost use Rattle.ob_lex.specs.Words as words;
 ghost use Rattle.ob_lex.specs.Closing.{MayClose};
 ghost use Rattle.ob_lex.specs.Reading as spec;
@@ -10,8 +10,9 @@ use crate::characters::{is_decimal, is_line_end, is_quote, is_white_space, start
 use crate::comment::comment;
 use crate::number::number;
 use crate::punctuator::marks_of;
-use crate::quoted::text;
-use crate::scan::{first_mark, name_run};
+use crate::quoted::quoted;
+use crate::scan::first_mark;
+use crate::splits::split_first;
 use crate::word::word;
 use crate::{LexError, TokenKind};
 use std::alloc::Global;
@@ -28,38 +29,32 @@ pub enum Piece {
 
 /// The piece at the front of a text, and the rest. The flag says whether a comment may be closed.
 #[tactic(auto, unfolding(crate::specs::Reading::piece_at))]
-pub fn read_piece<'a>(
-    alloc: Global,
-    closes: bool,
-    characters: &'a [char],
-) -> Result<(Piece, &'a [char]), LexError>
-    requires { MayClose closes characters.now }
-    ensures { Gives (λ p. (p.0, p.1.now)) result (spec.piece_at characters.now) }
+pub fn read_piece(alloc: Global, closes: bool, text: &str) -> Result<(Piece, &str), LexError>
+    requires { MayClose closes (chars text.now) }
+    ensures { Gives (λ p. (p.0, chars p.1.now)) result (spec.piece_at (chars text.now)) }
 {
-    match characters {
-        [] => Err(LexError::Bad),
-        [first, after @ ..] => {
-            if is_white_space(*first) {
+    match split_first(text) {
+        None => Err(LexError::Bad),
+        Some((first, after)) => {
+            if is_white_space(first) {
                 Ok((Piece::WhiteSpace, after))
-            } else if is_line_end(*first) {
+            } else if is_line_end(first) {
                 Ok((Piece::LineEnd, after))
-            } else if starts_name(*first) {
-                as_token(word(alloc, 1 + name_run(after), characters))
-            } else if is_decimal(*first) {
-                as_token(number(*first, after))
-            } else if is_quote(*first) {
-                as_token(text(alloc, *first, after))
+            } else if starts_name(first) {
+                as_token(word(alloc, text, after))
+            } else if is_decimal(first) {
+                as_token(number(first, after))
+            } else if is_quote(first) {
+                as_token(quoted(alloc, first, after))
             } else {
-                comment_or_mark(*first, closes, characters)
+                comment_or_mark(first, closes, text)
             }
         }
     }
 }
 
-fn as_token<'a>(
-    read: Result<(TokenKind, &'a [char]), LexError>,
-) -> Result<(Piece, &'a [char]), LexError>
-    ensures { (other : Option (TokenKind × List ℕ)) → Gives (λ p. (p.0, p.1.now)) read.entry other → Gives (λ p. (p.0, p.1.now)) result (spec.read_map (λ kind. Piece.Token kind) other) }
+fn as_token(read: Result<(TokenKind, &str), LexError>) -> Result<(Piece, &str), LexError>
+    ensures { (other : Option (TokenKind × List ℕ)) → Gives (λ p. (p.0, chars p.1.now)) read.entry other → Gives (λ p. (p.0, chars p.1.now)) result (spec.read_map (λ kind. Piece.Token kind) other) }
 {
     match read {
         Ok((kind, rest)) => Ok((Piece::Token(kind), rest)),
@@ -67,17 +62,13 @@ fn as_token<'a>(
     }
 }
 
-fn comment_or_mark<'a>(
-    first: char,
-    closes: bool,
-    characters: &'a [char],
-) -> Result<(Piece, &'a [char]), LexError>
-    requires { MayClose closes characters.now }
-    ensures { Gives (λ p. (p.0, p.1.now)) result (spec.comment_or_mark (spec.comment_at characters.now) (spec.first_mark (words.marks_of first) characters.now)) }
+fn comment_or_mark(first: char, closes: bool, text: &str) -> Result<(Piece, &str), LexError>
+    requires { MayClose closes (chars text.now) }
+    ensures { Gives (λ p. (p.0, chars p.1.now)) result (spec.comment_or_mark (spec.comment_at (chars text.now)) (spec.first_mark (words.marks_of first) (chars text.now))) }
 {
-    match comment(closes, characters) {
+    match comment(closes, text) {
         Some((breaks, rest)) => Ok((Piece::Comment(breaks), rest)),
-        None => match first_mark(marks_of(first), characters) {
+        None => match first_mark(marks_of(first), text) {
             Some((mark, rest)) => Ok((Piece::Token(TokenKind::Punctuator(mark)), rest)),
             None => Err(LexError::Bad),
         },

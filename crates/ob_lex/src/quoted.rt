@@ -1,26 +1,25 @@
 //! Texts in quotes.
 
-ghost use Rattle.std.specs.Prelude.{◌≡◌, ◌≤◌, ◌++◌, ◌∷◌, length, option_map, IfSome, OnOk};
+ghost use Rattle.std.specs.Prelude.{◌≡◌, ◌≤◌, ◌++◌, chars, length, option_map, IfSome, OnOk};
 ghost use Rattle.std.specs.Char.Escape.{encode_utf16};
 ghost use Rattle.ob_lex.specs.Pieces.{units_of};
 ghost use Rattle.ob_lex.specs.Reading as spec;
 ghost use Rattle.ob_lex.specs.Reading.{Gives, IsCode};
 
 use crate::escape::escape;
+use crate::splits::split_first;
 use crate::{LexError, TokenKind};
 use ob_base::{NoMemory, Units};
 use std::alloc::Global;
 
 /// The text whose opening quote stands before these characters, and the rest.
-pub fn text<'a>(
-    alloc: Global,
-    quote: char,
-    after: &'a [char],
-) -> Result<(TokenKind, &'a [char]), LexError>
-    ensures { Gives (λ p. (p.0, p.1.now)) result (spec.text_at quote after.now) }
+pub fn quoted(alloc: Global, quote: char, after: &str) -> Result<(TokenKind, &str), LexError>
+    ensures { Gives (λ p. (p.0, chars p.1.now)) result (spec.text_at quote (chars after.now)) }
 {
-    let (units, rest) = inside(alloc, quote, after)?;
-    Ok((TokenKind::Text(units), rest))
+    match inside(alloc, quote, after) {
+        Ok((units, rest)) => Ok((TokenKind::Text(units), rest)),
+        Err(error) => Err(error),
+    }
 }
 
 /// What may stand behind an opening quote.
@@ -32,8 +31,8 @@ pub enum Element {
     Gives(Option<u32>),
 }
 
-fn inside<'a>(alloc: Global, quote: char, text: &'a [char]) -> Result<(Units, &'a [char]), LexError>
-    ensures { Gives (λ p. (p.0, p.1.now)) result (spec.inside (length text.now) quote text.now) }
+fn inside(alloc: Global, quote: char, text: &str) -> Result<(Units, &str), LexError>
+    ensures { Gives (λ p. (p.0, chars p.1.now)) result (spec.inside (length text.now) quote (chars text.now)) }
 {
     let mut units = Units::new(alloc);
     let mut rest = text;
@@ -53,26 +52,22 @@ fn inside<'a>(alloc: Global, quote: char, text: &'a [char]) -> Result<(Units, &'
 }
 
 #[tactic(auto, unfolding(crate::specs::Reading::element_at))]
-fn read_element(quote: char, text: &[char]) -> Option<(Element, &[char])>
-    ensures value { spec.element_at quote text.now ≡ option_map (λ p. (p.0, p.1.now)) result }
+fn read_element(quote: char, text: &str) -> Option<(Element, &str)>
+    ensures value { spec.element_at quote (chars text.now) ≡ option_map (λ p. (p.0, chars p.1.now)) result }
     ensures within { IfSome result (λ p. IsCode p.0) }
 {
-    match text {
-        [] => None,
-        [c, after @ ..] => {
-            if *c == quote {
-                Some((Element::Closes, after))
-            } else if *c == '\\' {
-                match escape(after) {
-                    Some((code, rest)) => Some((Element::Gives(code), rest)),
-                    None => None,
-                }
-            } else if *c == '\n' || *c == '\r' {
-                None
-            } else {
-                Some((Element::Gives(Some(*c as u32)), after))
-            }
+    let (c, after) = split_first(text)?;
+    if c == quote {
+        Some((Element::Closes, after))
+    } else if c == '\\' {
+        match escape(after) {
+            Some((code, rest)) => Some((Element::Gives(code), rest)),
+            None => None,
         }
+    } else if c == '\n' || c == '\r' {
+        None
+    } else {
+        Some((Element::Gives(Some(c as u32)), after))
     }
 }
 

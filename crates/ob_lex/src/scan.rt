@@ -1,69 +1,65 @@
 //! Runs and words at the front of a text.
 
-ghost use Rattle.std.specs.Prelude.{◌≡◌, ◌≤◌, length, IsTrue, not, option_map};
+ghost use Rattle.std.specs.Prelude.{◌≡◌, true, false, chars, drop, length, not, option_map, MatchOption};
 ghost use Rattle.ob_lex.specs.Characters as characters;
 ghost use Rattle.ob_lex.specs.Pieces as pieces;
 ghost use Rattle.ob_lex.specs.Reading as spec;
 
 use crate::Punctuator;
 use crate::characters::{begins_with_digit, continues_name, is_line_end};
+use crate::splits::split_first;
 
-/// How many characters at the front go on a name.
-pub fn name_run(text: &[char]) -> usize
-    ensures value { result ≡ spec.run characters.continues_name text.now }
-    ensures within { result ≤ length text.now }
+/// What stands behind the characters at the front that go on a name.
+pub fn after_name(text: &str) -> &str
+    ensures { chars result.now ≡ drop (spec.run characters.continues_name (chars text.now)) (chars text.now) }
 {
-    for (i, c) in text.iter().enumerate() {
-        if !continues_name(*c) {
-            return i;
+    let mut rest = text;
+    while let Some((c, after)) = split_first(rest) {
+        if !continues_name(c) {
+            return rest;
         }
+        rest = after;
     }
-    text.len()
+    rest
 }
 
-/// How many characters at the front stand before a line end.
-pub fn line_run(text: &[char]) -> usize
-    ensures value { result ≡ spec.run (λ c. not (characters.is_line_end c)) text.now }
-    ensures within { result ≤ length text.now }
+/// The text from its first line end on.
+pub fn after_line(text: &str) -> &str
+    ensures { chars result.now ≡ drop (spec.run (λ c. not (characters.is_line_end c)) (chars text.now)) (chars text.now) }
 {
-    for (i, c) in text.iter().enumerate() {
-        if is_line_end(*c) {
-            return i;
+    let mut rest = text;
+    while let Some((c, after)) = split_first(rest) {
+        if is_line_end(c) {
+            return rest;
         }
+        rest = after;
     }
-    text.len()
+    rest
 }
 
-/// Whether the text begins with a word of ASCII.
-pub fn begins(word: &[u8], text: &[char]) -> bool
-    ensures value { result ≡ characters.begins word.now text.now }
-    ensures within { IsTrue result → length word.now ≤ length text.now }
+/// What stands behind a word of ASCII, where the text begins with it.
+pub fn strip<'a>(word: &[u8], text: &'a str) -> Option<&'a str>
+    ensures { MatchOption result (characters.begins word.now (chars text.now) ≡ false)
+        (λ rest. (characters.begins word.now (chars text.now) ≡ true) × (chars rest.now ≡ drop (length word.now) (chars text.now))) }
 {
     match word {
-        [] => true,
-        [w, ws @ ..] => match text {
-            [] => false,
-            [c, cs @ ..] => u32::from(*w) == *c as u32 && begins(ws, cs),
-        },
-    }
-}
-
-/// Whether the text is a word of ASCII.
-pub fn is_word(word: &[u8], text: &[char]) -> bool
-    ensures { result ≡ spec.same_text word.now text.now }
-{
-    match word {
-        [] => text.is_empty(),
-        [w, ws @ ..] => match text {
-            [] => false,
-            [c, cs @ ..] => u32::from(*w) == *c as u32 && is_word(ws, cs),
+        [] => Some(text),
+        [w, ws @ ..] => match split_first(text) {
+            None => None,
+            Some((c, cs)) => {
+                if u32::from(*w) == c as u32 {
+                    strip(ws, cs)
+                } else {
+                    None
+                }
+            }
         },
     }
 }
 
 /// Whether a punctuator may stand before a text.
-fn may_precede(mark: Punctuator, rest: &[char]) -> bool
-    ensures { result ≡ pieces.may_precede mark rest.now }
+fn may_precede(mark: Punctuator, rest: &str) -> bool
+    ensures { result ≡ pieces.may_precede mark (chars rest.now) }
 {
     match mark {
         Punctuator::QuestionDot => !begins_with_digit(rest),
@@ -72,13 +68,14 @@ fn may_precede(mark: Punctuator, rest: &[char]) -> bool
 }
 
 /// The first of the punctuators with which the text begins and that may stand there, and the rest.
-pub fn first_mark<'a>(marks: &[Punctuator], text: &'a [char]) -> Option<(Punctuator, &'a [char])>
-    ensures { spec.first_mark marks.now text.now ≡ option_map (λ p. (p.0, p.1.now)) result }
+pub fn first_mark<'a>(marks: &[Punctuator], text: &'a str) -> Option<(Punctuator, &'a str)>
+    ensures { spec.first_mark marks.now (chars text.now) ≡ option_map (λ p. (p.0, chars p.1.now)) result }
 {
     for mark in marks {
-        let word = mark.as_str().as_bytes();
-        if begins(word, text) && may_precede(*mark, &text[word.len()..]) {
-            return Some((*mark, &text[word.len()..]));
+        if let Some(rest) = strip(mark.as_str().as_bytes(), text) {
+            if may_precede(*mark, rest) {
+                return Some((*mark, rest));
+            }
         }
     }
     None

@@ -1,4 +1,5 @@
-use crate::{LexError, Punctuator, RESERVED_WORDS, Token, TokenKind, lex};
+use crate::{LexError, Punctuator, Token, TokenKind, lex};
+use ob_base::RESERVED_WORDS;
 use std::alloc::{AllocError, Global};
 use std::test::Fail;
 

@@ -1,5 +1,5 @@
-use crate::{Punctuator, ReservedWord};
-use ob_base::{Text, Units};
+use crate::Punctuator;
+use ob_base::{ReservedWord, Text, Units};
 
 /// A token and where it stands.
 #[derive(Debug, Drop)]

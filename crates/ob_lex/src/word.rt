@@ -1,26 +1,29 @@
 //! Names and reserved words.
 
-ghost use Rattle.std.specs.Prelude.{◌≡◌, ◌≤◌, ◌<◌, length, encode_utf8_all, IfOk};
+ghost use Rattle.std.specs.Prelude.{◌≡◌, ◌∷◌, chars, drop, take, suc, ℕ, encode_utf8_all, IfOk};
+ghost use Rattle.ob_base.specs.Reserved.{reserved_word};
+ghost use Rattle.ob_lex.specs.Characters.{continues_name};
 ghost use Rattle.ob_lex.specs.Reading as spec;
 ghost use Rattle.ob_lex.specs.Reading.{Gives};
 
-use crate::scan::{is_word, name_run};
-use crate::{LexError, RESERVED_WORDS, ReservedWord, TokenKind};
-use ob_base::{NoMemory, Text};
+use crate::scan::after_name;
+use crate::splits::before;
+use crate::{LexError, TokenKind};
+use ob_base::{NoMemory, ReservedWord, Text};
 use std::alloc::Global;
 
-/// The word that begins with the first character, and the rest.
+/// The word at the front of a text, whose first character is given by what follows it, and the rest.
 #[tactic(auto, unfolding(crate::specs::Reading::word_at))]
 pub fn word<'a>(
     alloc: Global,
-    len: usize,
-    characters: &'a [char],
-) -> Result<(TokenKind, &'a [char]), LexError>
-    requires { len ≤ length characters.now }
-    ensures { Gives (λ p. (p.0, p.1.now)) result (spec.word_at len characters.now) }
+    text: &'a str,
+    after: &'a str,
+) -> Result<(TokenKind, &'a str), LexError>
+    requires { (c : ℕ) × (chars text.now ≡ c ∷ chars after.now) }
+    ensures { Gives (λ p. (p.0, chars p.1.now)) result (spec.word_at (suc (spec.run continues_name (chars after.now))) (chars text.now)) }
 {
-    let (front, rest) = characters.split_at(len);
-    match reserved_word(front) {
+    let (front, rest) = split_word(text, after);
+    match reserved(front) {
         Some(word) => Ok((TokenKind::Reserved(word), rest)),
         None => {
             let name = text_of(alloc, front)?;
@@ -29,27 +32,24 @@ pub fn word<'a>(
     }
 }
 
-#[tactic(auto, unfolding(crate::specs::Reading::reserved_word))]
-fn reserved_word(name: &[char]) -> Option<ReservedWord>
-    ensures { result ≡ spec.reserved_word name.now }
+fn split_word<'a>(text: &'a str, after: &'a str) -> (&'a str, &'a str)
+    requires { (c : ℕ) × (chars text.now ≡ c ∷ chars after.now) }
+    ensures front { chars result.0.now ≡ take (suc (spec.run continues_name (chars after.now))) (chars text.now) }
+    ensures rest { chars result.1.now ≡ drop (suc (spec.run continues_name (chars after.now))) (chars text.now) }
 {
-    find_word(&RESERVED_WORDS, name)
+    let rest = after_name(after);
+    (before(text, rest), rest)
 }
 
-fn find_word(words: &[ReservedWord], name: &[char]) -> Option<ReservedWord>
-    ensures { result ≡ spec.find_word words.now name.now }
+fn reserved(name: &str) -> Option<ReservedWord>
+    ensures { result ≡ reserved_word (chars name.now) }
 {
-    for word in words {
-        if is_word(word.as_str().as_bytes(), name) {
-            return Some(*word);
-        }
-    }
-    None
+    ReservedWord::named(name)
 }
 
-fn text_of(alloc: Global, characters: &[char]) -> Result<Text, NoMemory>
-    ensures { IfOk result (λ text. text ≡ encode_utf8_all characters.now) }
+fn text_of(alloc: Global, name: &str) -> Result<Text, NoMemory>
+    ensures { IfOk result (λ text. text ≡ encode_utf8_all (chars name.now)) }
 {
-    let text: String = characters.iter().copied().collect(alloc)?;
+    let text = String::from_str(alloc, name)?;
     Ok(Text::from_string(text))
 }

@@ -15,7 +15,8 @@ use Rattle.ob_base.specs.declared.plain.Plain as plain
 use Rattle.ob_base.specs.declared.plain.Plain.{Plain, the_lemmas}
 use Rattle.ob_base.specs.declared.plain.PlainProp.{PlainProp}
 use Rattle.ob_script.specs.Forms.{is_text, is_before, are_ascending, is_object, is_readable, readable_prop}
-use Rattle.ob_script.specs.Inputs.{is_in_range, integer_of, props_of}
+use Rattle.ob_base.specs.Integers.{is_in_range}
+use Rattle.ob_script.specs.Inputs.{integer_of, props_of}
 use Rattle.ob_script.specs.Returns.{IsBack, AreBack, EachBack}
 use Rattle.ob_script.specs.Texts.{members_from, put_all, plain_data, prop_data}
 use Rattle.ob_script.proofs.Props.{prop_data-is}

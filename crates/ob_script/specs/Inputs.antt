@@ -10,16 +10,13 @@ use Rattle.ob_base.specs.declared.cause.Cause.TheVariants.{BadShape, NumberRange
 use Rattle.ob_base.specs.declared.plain.Plain as plain
 use Rattle.ob_base.specs.declared.plain.Plain.{Plain}
 use Rattle.ob_base.specs.declared.plain.PlainProp.{PlainProp}
+use Rattle.ob_base.specs.Integers.{is_in_range}
 use Rattle.ob_base.specs.PlainData.{elements, nesting, has_short_texts}
 use Rattle.ob_script.specs.Fields.{◌>>=◌, in_form}
 
 -- the UTF-16 code units of a text in UTF-8 (ECMA-262, "The String Type")
 unfoldable pub utf16 : List ℕ → List ℕ
 utf16 text = flat_map encode_utf16 (chars text)
-
--- from -(2^53-1) to 2^53-1
-abbrev pub is_in_range : ℤ → Bool
-is_in_range n = int_le (negsuc 9007199254740990) n && int_le n (pos 9007199254740991)
 
 abbrev pub integer_from : Option ℤ → Result Plain Cause
 integer_from None = Err NumberRange

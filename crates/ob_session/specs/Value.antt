@@ -1,5 +1,6 @@
 -- The value of a cell from that of its input, by ECMA-262's "Additive Operators" in the integers of the language.
-use Rattle.std.specs.Prelude.{ℤ, pos, negsuc, ◌+ℤ◌, int_le, ◌&&◌, Option, Some, None, option_and_then, if◌then◌else◌}
+use Rattle.std.specs.Prelude.{ℤ, ◌+ℤ◌, Option, Some, None, option_and_then, if◌then◌else◌}
+use Rattle.ob_base.specs.Integers.{is_in_range}
 use Rattle.ob_base.specs.declared.operators.BinaryOp.{BinaryOp}
 use Rattle.ob_base.specs.declared.operators.BinaryOp.TheVariants as op
 use Rattle.ob_tree_types.specs.declared.tree.Expr.{Expr, fold-Expr}
@@ -8,7 +9,7 @@ use Rattle.ob_tree_types.specs.declared.tree.DeclValue.TheOpen as layer
 
 -- a sum out of the range of integers has no value
 abbrev pub sum : ℤ → ℤ → Option ℤ
-sum a b = if int_le (negsuc 9007199254740990) (a +ℤ b) && int_le (a +ℤ b) (pos 9007199254740991) then Some (a +ℤ b) else None
+sum a b = if is_in_range (a +ℤ b) then Some (a +ℤ b) else None
 
 abbrev pub operate : BinaryOp → Option ℤ → Option ℤ → Option ℤ
 operate op.Add l r = option_and_then (λ a. option_and_then (sum a) r) l

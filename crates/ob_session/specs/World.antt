@@ -50,7 +50,7 @@ cells_from cells (new ∷ more) = option_and_then (λ c. cells_from (cells ++ c 
 abbrev pub new_world : List ℕ → List Cell → World
 new_world main cells = record { main = main; cells = cells; observed = replicate (length cells) false; live = replicate (length cells) false; ticks = 0 }
 
--- it has to be the main notebook, of at most 1,000 cells
+-- one notebook alone, the main one, of at most 1,000 cells
 abbrev pub world_of_notebook : List ℕ → List ℕ → List NewCell → Option World
 world_of_notebook main id cells = if bytes_eq id main && nat_le (length cells) 1000 then option_map (new_world main) (cells_from [] cells) else None
 

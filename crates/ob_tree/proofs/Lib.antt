@@ -2,3 +2,4 @@ mod Capped
 mod Folds
 mod Keys
 mod Spacing
+mod NameRows

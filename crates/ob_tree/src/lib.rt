@@ -6,7 +6,6 @@ mod depths;
 mod marks;
 mod printing;
 mod quoted;
-mod reserved;
 
 pub use cell_text::print_cell;
 pub use depths::depth;

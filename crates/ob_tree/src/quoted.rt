@@ -1,16 +1,16 @@
 //! Texts in quotes, and keys.
 
-ghost use Rattle.std.specs.Prelude.{◌≡◌, [], ◌∷◌, ◌++◌, ◌<◌, ◌≤◌, length, string_bytes, OnOk, IfOk};
+ghost use Rattle.std.specs.Prelude.{◌≡◌, [], ◌∷◌, ◌++◌, ◌<◌, ◌≤◌, length, string_bytes, bytes_eq, is_some, OnOk, IfOk};
 ghost use Rattle.std.specs.Prelude.{IsTrue};
 ghost use Rattle.std.specs.List.{All, list_all, list_any};
 ghost use Rattle.std.specs.Char.{encode_utf8, digit_char};
 ghost use Rattle.std.specs.Char.Utf16.{is_high_surrogate, is_low_surrogate, surrogate_pair_char};
+ghost use Rattle.ob_base.specs.Reserved.{find_word};
 ghost use Rattle.ob_tree.specs.Tokens as tokens;
 ghost use Rattle.ob_tree.specs.Words as words;
 ghost use Rattle.ob_tree.specs.Tokens.{spaced, Word, Quoted};
 
-use crate::reserved::{RESERVED_WORDS, ReservedWord};
-use ob_base::NoMemory;
+use ob_base::{NoMemory, RESERVED_WORDS, ReservedWord};
 
 /// Adds a space and a text in quotes.
 #[tactic(auto, unfolding(crate::specs::Tokens::spaced))]
@@ -201,7 +201,7 @@ fn continues(unit: u16) -> bool
     starts(unit) || (48 <= unit && unit <= 57)
 }
 
-#[tactic(auto, unfolding(crate::specs::Words::is_reserved))]
+#[tactic(auto, unfolding(crate::specs::Words::is_reserved, ob_base::specs::Reserved::reserved_word))]
 fn is_reserved(units: &[u16]) -> bool
     ensures { result ≡ words.is_reserved units.now }
 {
@@ -209,7 +209,7 @@ fn is_reserved(units: &[u16]) -> bool
 }
 
 fn is_any(list: &[ReservedWord], units: &[u16]) -> bool
-    ensures { result ≡ list_any (λ w. words.same_codes (words.spelling w) units.now) list.now }
+    ensures { result ≡ is_some (find_word list.now units.now) }
 {
     for word in list {
         if is_spelled(word.as_str().as_bytes(), units) {
@@ -221,7 +221,7 @@ fn is_any(list: &[ReservedWord], units: &[u16]) -> bool
 
 /// Whether units spell a word of ASCII.
 fn is_spelled(word: &[u8], units: &[u16]) -> bool
-    ensures { result ≡ words.same_codes word.now units.now }
+    ensures { result ≡ bytes_eq word.now units.now }
 {
     match word {
         [] => units.is_empty(),

@@ -1,7 +1,7 @@
 //! The reserved words.
 
 ghost use Rattle.std.specs.Prelude.{◌≡◌};
-ghost use Rattle.ob_lex.specs.Words as words;
+ghost use Rattle.ob_base.specs.Reserved as words;
 
 /// A word that is no name: the reserved words of ECMA-262 ("Keywords and Reserved Words") and those
 /// of this project.
@@ -56,7 +56,7 @@ pub enum ReservedWord {
 
 impl ReservedWord {
     /// How the word is written.
-    #[tactic(auto, unfolding(crate::specs::Words::spelling))]
+    #[tactic(auto, unfolding(crate::specs::Reserved::spelling))]
     pub fn as_str(self) -> &'static str
         ensures { result.now ≡ words.spelling self }
     {
@@ -106,6 +106,16 @@ impl ReservedWord {
             ReservedWord::While => "while",
             ReservedWord::With => "with",
             ReservedWord::Yield => "yield",
+        }
+    }
+
+    /// The reserved word that is written so, if there is one.
+    pub fn named(name: &str) -> Option<ReservedWord>
+        ensures { result ≡ words.reserved_word name.now }
+    {
+        match name.as_bytes() {
+            [] => None,
+            [first, ..] => find_word(words_of(*first), name),
         }
     }
 }
@@ -158,3 +168,81 @@ pub const RESERVED_WORDS: [ReservedWord; 45] = [
     ReservedWord::With,
     ReservedWord::Yield,
 ];
+
+/// The reserved words that begin with a letter.
+#[tactic(auto, unfolding(crate::specs::Reserved::words_of))]
+fn words_of(first: u8) -> &'static [ReservedWord]
+    ensures { result.now ≡ words.words_of first }
+{
+    match first {
+        b'a' => &[
+            ReservedWord::Arguments,
+            ReservedWord::Async,
+            ReservedWord::Await,
+        ],
+        b'b' => &[ReservedWord::Break],
+        b'c' => &[
+            ReservedWord::Case,
+            ReservedWord::Catch,
+            ReservedWord::Class,
+            ReservedWord::Const,
+            ReservedWord::Continue,
+        ],
+        b'd' => &[
+            ReservedWord::Debugger,
+            ReservedWord::Default,
+            ReservedWord::Delete,
+            ReservedWord::Do,
+        ],
+        b'e' => &[
+            ReservedWord::Else,
+            ReservedWord::Enum,
+            ReservedWord::Export,
+            ReservedWord::Extends,
+        ],
+        b'f' => &[
+            ReservedWord::False,
+            ReservedWord::Finally,
+            ReservedWord::For,
+            ReservedWord::Function,
+        ],
+        b'i' => &[
+            ReservedWord::If,
+            ReservedWord::Import,
+            ReservedWord::In,
+            ReservedWord::Instanceof,
+        ],
+        b'l' => &[ReservedWord::Let],
+        b'm' => &[ReservedWord::Mutable],
+        b'n' => &[ReservedWord::New, ReservedWord::Null],
+        b'r' => &[ReservedWord::Return],
+        b's' => &[
+            ReservedWord::Static,
+            ReservedWord::Super,
+            ReservedWord::Switch,
+        ],
+        b't' => &[
+            ReservedWord::This,
+            ReservedWord::Throw,
+            ReservedWord::True,
+            ReservedWord::Try,
+            ReservedWord::Typeof,
+        ],
+        b'u' => &[ReservedWord::Undefined],
+        b'v' => &[ReservedWord::Var, ReservedWord::Viewof, ReservedWord::Void],
+        b'w' => &[ReservedWord::While, ReservedWord::With],
+        b'y' => &[ReservedWord::Yield],
+        _ => &[],
+    }
+}
+
+fn find_word(list: &[ReservedWord], name: &str) -> Option<ReservedWord>
+    ensures { result ≡ words.find_word list.now name.now }
+{
+    for word in list {
+        if word.as_str() == name {
+            return Some(*word);
+        }
+    }
+    None
+}

@@ -1,6 +1,0 @@
-use Rattle.std.proofs.Common.{rules}
-use Rattle.std.proofs.lemmas.Str.{chars_from_encodes}
-use Rattle.ob_lex.proofs.decoded.Goals as goal
-
-pub returns-clause-characters : goal.returns-clause-characters
-returns-clause-characters c = search (rules, chars_from_encodes)
