@@ -1,0 +1,5 @@
+pub mod Running
+pub mod ChainLaws
+pub mod SetLaws
+pub mod KeyLaws
+pub mod SlotLaws
