@@ -1,0 +1,13 @@
+pub mod Marks
+pub mod Forms
+pub mod Lists
+pub mod Grammar
+pub mod Yields
+pub mod Cells
+pub mod Early
+pub mod Limits
+pub mod Readable
+pub mod Semicolons
+pub mod Taking
+pub mod Reading
+pub mod ReadingCells
