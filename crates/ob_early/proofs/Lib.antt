@@ -1,0 +1,3 @@
+mod ChainLaws
+mod Folds
+mod Running
