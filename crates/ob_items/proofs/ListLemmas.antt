@@ -1,7 +1,8 @@
 -- What stands at a place of a list after a write or a push.
-use Rattle.std.proofs.Common.{◌≡◌, ◌≢◌, ◌⊎◌, ℕ, zero, suc, Some, List, [], ◌∷◌, ◌++◌, refl, slice_get, slice_set, ap, arith, length, inl, inr}
+use Rattle.std.proofs.Common.{◌≡◌, ◌≢◌, ◌⊎◌, ℕ, zero, suc, ◌≤◌, Some, None, sym, ◌+◌, List, [], ◌∷◌, ◌++◌, ◌∙◌, refl, slice_get, slice_set, ap, arith, length, map, take, inl, inr}
 use Rattle.std.proofs.lemmas.Grind.{common_steps}
 use Rattle.std.proofs.lemmas.Bool.{cases_lt}
+use Rattle.std.proofs.lemmas.Option.{same_Some, none-some}
 
 pub slice_get-set_same : {X : Type 0} (xs : List X) (i : ℕ) (v old : X) → slice_get xs i ≡ Some old → slice_get (slice_set xs i v) i ≡ Some v
 slice_get-set_same [] i v old e = grind (arith, common_steps)
@@ -36,3 +37,15 @@ equal_or_not i j =
       | inl l ↦ inr (λ e. omega arith)
       | inr l ↦ elim (cases_lt j i) [ inl m ↦ inr (λ e. omega arith) | inr m ↦ inl (omega arith) ]
     ]
+
+pub map_take_more : {X Y : Type 0} (f : X → Y) (xs : List X) (k : ℕ) (x : X) → slice_get xs k ≡ Some x → map f (take (k + 1) xs) ≡ map f (take k xs) ++ f x ∷ []
+map_take_more f [] k x e = grind (arith, common_steps)
+map_take_more f (y ∷ ys) zero x e = ap (λ z. f z ∷ []) (same_Some y x e)
+map_take_more f (y ∷ ys) (suc k) x e =
+    let h : suc k + 1 ≡ suc (k + 1) = omega arith in
+    ap (λ n. map f (take n (y ∷ ys))) h ∙ ap (λ zs. f y ∷ zs) (map_take_more f ys k x e)
+
+pub length-le-none : {X : Type 0} (xs : List X) (k : ℕ) → slice_get xs k ≡ None → length xs ≤ k
+length-le-none [] k e = omega arith
+length-le-none (y ∷ ys) zero e = absurd (none-some y (sym e))
+length-le-none (y ∷ ys) (suc k) e = omega (arith, length-le-none ys k e)

@@ -1,3 +1,4 @@
+pub mod Binding
 pub mod Bodies
 pub mod IndexText
 pub mod Items

@@ -9,6 +9,7 @@ use Rattle.std.specs.BTreeMap as tree
 use Rattle.indexmap.specs.IndexMap as table
 use Rattle.ob_items.specs.IndexText.{index_in}
 use Rattle.ob_items.specs.declared.value.Value.{Value}
+use Rattle.ob_items.specs.declared.properties.Property.{Property}
 
 pub record Keyed : Type 0 where
   pub indices : List (ℕ × Value)
@@ -40,3 +41,13 @@ keys_of p = map (λ e. decimal e.0) p.indices ++ map (λ e. e.0) p.named
 -- the values, in the order of the keys
 abbrev pub values_of : Keyed → List Value
 values_of p = map (λ e. e.1) p.indices ++ map (λ e. e.1) p.named
+
+abbrev pub index_entry : (ℕ × Value) → Property
+index_entry e = record { key = decimal e.0; value = e.1 }
+
+abbrev pub named_entry : (List ℕ × Value) → Property
+named_entry e = record { key = e.0; value = e.1 }
+
+-- the keys with their values, in the order of the keys
+abbrev pub entries_of : Keyed → List Property
+entries_of p = map index_entry p.indices ++ map named_entry p.named

@@ -1,7 +1,7 @@
 ghost use Rattle.std.specs.Prelude.{◌≡◌, IfOk};
 ghost use Rattle.ob_items.specs.Bodies.{after_take};
 
-use crate::{CodeKey, ErrorKind, Properties, Ref, Taken, Value};
+use crate::{Binding, CodeKey, ErrorKind, Properties, Ref, Taken, Value};
 use ob_base::{List, NoMemory, Units};
 use sqlite_items::Boxed;
 use std::alloc::Global;
@@ -15,6 +15,9 @@ pub struct Item {
     pub body: Body,
 }
 
+// A region keeps each item in 40 bytes, and what it holds of any length elsewhere.
+const _: () = prove!(size_of::<Item>() == 40);
+
 /// What an item is.
 #[derive(Drop)]
 pub enum Body {
@@ -22,7 +25,7 @@ pub enum Body {
     Array(List<Value>),
     Object(Properties),
     /// The box of a captured binding; none before its declaration has run.
-    Box(Option<Value>),
+    Box(Binding),
     Closure(Boxed<Closure>),
     Generator(Suspended),
     /// An error, and the text of its message.

@@ -2,6 +2,7 @@
 //! region.
 #![tactic(auto)]
 
+mod binding;
 mod error;
 mod frame;
 mod index_text;
@@ -13,11 +14,12 @@ mod units_map;
 mod value;
 mod writes;
 
+pub use binding::Binding;
 pub use error::{AllocError, Failure, HookError, OpError, PlainError, SetError, TextError};
 pub use frame::{Catch, Frame, Taken};
 pub use index_text::{decimal_units, index_of, integer_units, units_of};
 pub use item::{Body, Closure, Item, Suspended};
-pub use properties::Properties;
+pub use properties::{Properties, Property};
 pub use region::Region;
 pub use sqlite_items::Boxed;
 pub use thrown::Thrown;

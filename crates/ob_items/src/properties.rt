@@ -1,5 +1,5 @@
-ghost use Rattle.std.specs.Prelude.{◌≡◌, IfOk, OnOk, OnErr, map, decimal};
-ghost use Rattle.ob_items.specs.Properties.{property, with_property, no_properties, values_of, keys_of};
+ghost use Rattle.std.specs.Prelude.{◌≡◌, ◌++◌, IfOk, OnOk, OnErr, map, decimal};
+ghost use Rattle.ob_items.specs.Properties.{property, with_property, no_properties, values_of, keys_of, entries_of, index_entry, named_entry};
 
 use crate::index_text::{decimal_units, index_of};
 use crate::{UnitsMap, Value};
@@ -12,6 +12,13 @@ use std::marker::Model;
 #[derive(Drop)]
 pub struct Properties {
     maps: Box<PropertyMaps>,
+}
+
+/// A property: its key and its value.
+#[derive(Drop)]
+pub struct Property {
+    pub key: Units,
+    pub value: Value,
 }
 
 // In a place of their own, so that items other than objects stay small.
@@ -100,6 +107,46 @@ impl Properties {
         maps.named.add_keys(alloc, &mut keys)?;
         Ok(keys)
     }
+
+    /// The keys with their values, in the order of the keys.
+    ///
+    /// # Errors
+    /// `NoMemory` where an allocation is refused.
+    pub fn entries(&self, alloc: Global) -> Result<List<Property>, NoMemory>
+        ensures { IfOk result (λ entries. entries ≡ entries_of self.now) }
+    {
+        let maps = &*self.maps;
+        let mut entries = index_entries(alloc, &maps.indices)?;
+        add_named_entries(alloc, &maps.named, &mut entries)?;
+        Ok(entries)
+    }
+}
+
+fn index_entries(alloc: Global, indices: &BTreeMap<u32, Value>) -> Result<List<Property>, NoMemory>
+    ensures { IfOk result (λ entries. entries ≡ map index_entry indices.now.entries) }
+{
+    let mut entries = List::new(alloc);
+    for (index, value) in indices {
+        let key = decimal_units(alloc, u64::from(*index))?;
+        entries.push(Property { key, value: *value })?;
+    }
+    Ok(entries)
+}
+
+fn add_named_entries(
+    alloc: Global,
+    named: &UnitsMap<Value>,
+    entries: &mut List<Property>,
+) -> Result<(), NoMemory>
+    ensures { OnOk result (entries.new ≡ entries.old ++ map named_entry named.now) }
+{
+    for place in 0..named.len() {
+        if let Some((key, value)) = named.at(place) {
+            let key = Units::from_vec(Vec::from_slice(alloc, key)?);
+            entries.push(Property { key, value })?;
+        }
+    }
+    Ok(())
 }
 
 fn index_values(alloc: Global, indices: &BTreeMap<u32, Value>) -> Result<List<Value>, NoMemory>

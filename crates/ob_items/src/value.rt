@@ -32,6 +32,9 @@ pub enum Value {
     Ref(Ref),
 }
 
+// So an array keeps each of its elements in 24 bytes.
+const _: () = prove!(size_of::<Value>() == 24);
+
 /// The kinds of errors (ECMA-262, "Error Objects").
 #[derive(Clone, Copy, Debug, PartialEq, Eq)]
 pub enum ErrorKind {

@@ -100,8 +100,8 @@ pub(crate) fn fill_box(items: &mut Vec<Item>, at: usize, value: Value) -> Result
         return Err(SetError::Frozen);
     }
     match &mut item.body {
-        Body::Box(kept) => {
-            *kept = Some(value);
+        Body::Box(binding) => {
+            binding.put(value);
             Ok(())
         }
         _ => unreachable!(),

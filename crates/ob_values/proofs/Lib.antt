@@ -1,7 +1,13 @@
+pub mod BuildLemmas
+pub mod CycleLemmas
+pub mod FixedLemmas
 pub mod LiteralSound
+pub mod PlacedLemmas
+pub mod PlainLemmas
 pub mod PointerLemmas
 pub mod ReachLemmas
 pub mod RootLemmas
 pub mod SeenLemmas
 pub mod SoundLemmas
 pub mod StoreLemmas
+pub mod TreeLemmas

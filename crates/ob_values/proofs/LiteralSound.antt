@@ -65,7 +65,7 @@ literal_keeps c units at item h = by (literal_at c units)
     by None = slice_get-push_within c.items (live (B.Text units)) item at h
     by (Some k) = h
 
-literal_stays : (s : Store) (key : RegionKey) (units : List ℕ) (b : Ref) (item : Item) → item_of s b ≡ Some item → item_of (with_literal_in s key units) b ≡ Some item
+pub literal_stays : (s : Store) (key : RegionKey) (units : List ℕ) (b : Ref) (item : Item) → item_of s b ≡ Some item → item_of (with_literal_in s key units) b ≡ Some item
 literal_stays s key units b item h = by (region_of s key.0) refl
   where
     by : (o : Option Cells) → region_of s key.0 ≡ o → item_of (with_literal_in s key units) b ≡ Some item

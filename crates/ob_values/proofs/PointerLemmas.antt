@@ -55,7 +55,7 @@ to_values (x ∷ xs) v q h e =
     ]
 
 -- values that are among the old ones or are the new one lead to no more
-more : (xs ys : List Value) (v : Value) → ((w : Value) → Contains xs w → Contains ys w ⊎ (v ≡ w)) → (q : Pointer) → Contains (pointers_of xs) q → Contains (pointers_of ys) q ⊎ Contains (pointers_of (v ∷ [])) q
+pub more : (xs ys : List Value) (v : Value) → ((w : Value) → Contains xs w → Contains ys w ⊎ (v ≡ w)) → (q : Pointer) → Contains (pointers_of xs) q → Contains (pointers_of ys) q ⊎ Contains (pointers_of (v ∷ [])) q
 more xs ys v among q h =
     let t = from_values xs q h in
     elim (among t.0 t.1) [ inl o ↦ inl (to_values ys t.0 q o t.2) | inr e ↦ inr (option_head (pointer_of v) [] q (ap pointer_of e ∙ t.2)) ]
@@ -122,7 +122,7 @@ table_cases (e ∷ es) k v w h = by (pointwise nat_eq k e.0) (table_cases es k v
           | inr t ↦ elim (before t) [ inl u ↦ inl (Contains-cons e.1 rest w u) | inr same ↦ inr same ]
         ]
 
-property_cases : (p : Keyed) (key : List ℕ) (v w : Value) → Contains (values_of (with_property p key v)) w → Contains (values_of p) w ⊎ (v ≡ w)
+pub property_cases : (p : Keyed) (key : List ℕ) (v w : Value) → Contains (values_of (with_property p key v)) w → Contains (values_of p) w ⊎ (v ≡ w)
 property_cases p key v w = by (index_in key)
   where
     indices : List Value

@@ -245,7 +245,7 @@ pub KeepsSound-freeze : {T E : Type 0} (result : Result T E) (s n : Store) (valu
 KeepsSound-freeze (Ok t) s n value ok err = subst (λ m. KeepsSound s m []) (sym ok.is) (KeepsSound-marks ok.frozen s)
 KeepsSound-freeze (Err e) s n value ok err = KeepsSound-refl s n [] err
 
-opened_items : (s n : Store) (k : ℕ) → region_of s k ≡ None → Updates s n k (Some no_cells) → (b : Ref) → item_of n b ≡ item_of s b
+pub opened_items : (s n : Store) (k : ℕ) → region_of s k ≡ None → Updates s n k (Some no_cells) → (b : Ref) → item_of n b ≡ item_of s b
 opened_items s n k free u b =
     elim (equal_or_not b.region.0 k) [
       | inr apart ↦ ap (λ o. option_map_or (λ (c : Cells). slice_get c.items b.item) o None) (u.others b.region.0 apart)

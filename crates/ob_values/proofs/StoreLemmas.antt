@@ -1,15 +1,16 @@
 -- What is at a reference after a write of its region.
-use Rattle.std.proofs.Common.{◌≡◌, ◌≢◌, ◌⊎◌, ℕ, zero, suc, ◌<◌, Some, None, [], ◌∷◌, slice_get, ap, ◌∙◌, sym, arith, length, inl, inr}
+use Rattle.std.proofs.Common.{◌≡◌, ◌≢◌, ◌⊎◌, ℕ, zero, suc, ◌<◌, Some, None, [], ◌∷◌, slice_get, ap, ◌∙◌, sym, arith, length, inl, inr, ◌+◌, Option, IsSome, refl, is_some}
 use Rattle.std.proofs.lemmas.Grind.{common_steps}
 use Rattle.std.proofs.lemmas.List.{get_or-set_same, get_or-set_other}
 use Rattle.std.proofs.lemmas.Option.{slice_get_past}
+use Rattle.std.proofs.lemmas.Bool.{true≢false}
 use Rattle.std.specs.Option.{option_map_or}
 use Rattle.ob_items.specs.declared.value.Ref.{Ref}
 use Rattle.ob_items.specs.declared.value.RegionKey.{RegionKey}
 use Rattle.ob_items.specs.declared.item.Item.{Item}
-use Rattle.ob_items.specs.Region.{Cells}
+use Rattle.ob_items.specs.Region.{Cells, with_item}
 use Rattle.ob_items.proofs.ListLemmas.{equal_or_not}
-use Rattle.ob_values.specs.Store.{Store, region_of, item_of, with_region}
+use Rattle.ob_values.specs.Store.{Store, region_of, item_of, with_region, with_new, elements_in}
 
 within_key : (s : Store) (k : ℕ) (c : Cells) → region_of s k ≡ Some c → k < length s
 within_key [] k c e = grind (arith, common_steps)
@@ -97,3 +98,24 @@ more_items s k c d e keeps b item h =
           ∙ ap (λ o. option_map_or (λ (c : Cells). slice_get c.items b.item) o None) (region_of-with_region_same s k d c e)
           ∙ keeps b.item item here
     ]
+
+-- a region with an item more
+with_new-region : (s : Store) (key : RegionKey) (item : Item) (cost : ℕ) (c : Cells) → region_of s key.0 ≡ Some c → region_of (with_new s key item cost) key.0 ≡ Some (with_item c item cost)
+with_new-region s key item cost c e =
+    ap (λ o. region_of (option_map_or (λ (c : Cells). with_region s key.0 (with_item c item cost)) o s) key.0) e ∙ region_of-with_region_same s key.0 (with_item c item cost) c e
+
+pub with_new-open : (s : Store) (key : RegionKey) (item : Item) (cost : ℕ) → IsSome (region_of s key.0) → IsSome (region_of (with_new s key item cost) key.0)
+with_new-open s key item cost opened = by (region_of s key.0) refl
+  where
+    by : (o : Option Cells) → region_of s key.0 ≡ o → IsSome (region_of (with_new s key item cost) key.0)
+    by None p = absurd (true≢false (sym opened ∙ ap is_some p))
+    by (Some c) p = ap is_some (with_new-region s key item cost c p)
+
+pub with_new-elements : (s : Store) (key : RegionKey) (item : Item) (cost : ℕ) → IsSome (region_of s key.0) → elements_in (with_new s key item cost) key ≡ elements_in s key + cost
+with_new-elements s key item cost opened = by (region_of s key.0) refl
+  where
+    by : (o : Option Cells) → region_of s key.0 ≡ o → elements_in (with_new s key item cost) key ≡ elements_in s key + cost
+    by None p = absurd (true≢false (sym opened ∙ ap is_some p))
+    by (Some c) p =
+        ap (λ o. option_map_or (λ (c : Cells). c.elements) o 0) (with_new-region s key item cost c p)
+        ∙ sym (ap (λ o. option_map_or (λ (c : Cells). c.elements) o 0 + cost) p)

@@ -1,5 +1,9 @@
+pub mod Fixed
 pub mod Freeze
 pub mod Operators
+pub mod Placed
+pub mod PlainOf
+pub mod PlainSearch
 pub mod Reach
 pub mod Sound
 pub mod Store

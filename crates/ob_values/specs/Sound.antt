@@ -114,3 +114,7 @@ AddsItem old new body r =
 abbrev pub KeepsOutside : Store → Store → RegionKey → Type 0
 KeepsOutside old new key =
     (roots : List Pointer) → ((p : Pointer) → Reaches (leads_to old) roots p → p.1.region.0 ≢ key.0) → IsSound old roots → IsSound new roots
+
+-- values of the new store are sound beside all roots that were
+abbrev pub AddsValues : Store → Store → List Value → Type 0
+AddsValues old new values = (roots : List Pointer) → IsSound old roots → IsSound new (pointers_of values ++ roots)

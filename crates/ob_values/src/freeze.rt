@@ -2,6 +2,7 @@
 ghost use Rattle.std.specs.Prelude.{◌≡◌, ◌↔◌, ◌∷◌, [], IfOk, OnOk, OnErr};
 ghost use Rattle.std.specs.List.{Contains};
 ghost use Rattle.ob_values.specs.Reach.{Reaches};
+ghost use Rattle.ob_values.specs.Fixed.{KeepsFixed};
 ghost use Rattle.ob_values.specs.Sound.{KeepsSound};
 ghost use Rattle.ob_values.specs.Freeze.{with_refs, refs_of, frozen_next, Freezes, all_marked};
 ghost use Rattle.ob_items.specs.declared.value.Ref.{Ref as TheRef};
@@ -23,6 +24,7 @@ impl Regions {
         ensures ok { OnOk result (Freezes self.old self.new value) }
         ensures err { OnErr result (self.new ≡ self.old) }
         ensures kept { KeepsSound self.old self.new [] }
+        ensures fixed { KeepsFixed self.old self.new }
     {
         self.mark_reached(value)
     }

@@ -2,6 +2,8 @@
 #![tactic(auto)]
 
 mod freeze;
+mod place;
+mod plain;
 mod read;
 mod regions;
 mod seen;

@@ -1,9 +1,11 @@
 //! Regions: opening, closing, and what is read of an item.
-ghost use Rattle.std.specs.Prelude.{◌≡◌, ◌≤◌, [], IsSome, IfSome, OnErr, IfOk, Some, None, slice_set, option_map};
+ghost use Rattle.std.specs.Prelude.{◌≡◌, ◌≢◌, ◌≤◌, [], IsSome, IfSome, OnErr, IfOk, Some, None, slice_set, option_map};
 ghost use Rattle.std.specs.Option.{option_copied};
 ghost use Rattle.ob_items.specs.Bodies.{kind_of, text_of, elements_of, properties_of, box_of, closure_of, message_of_error};
 ghost use Rattle.ob_items.specs.Properties.{property};
 ghost use Rattle.ob_items.specs.Region.{no_cells};
+ghost use Rattle.ob_items.specs.declared.value.Ref.{Ref as TheRef};
+ghost use Rattle.ob_values.specs.Fixed.{KeepsFixed, KeepsFixedAt};
 ghost use Rattle.ob_values.specs.Sound.{KeepsSound, KeepsOutside};
 ghost use Rattle.ob_values.specs.Store.{region_of, IsOpen, item_of, read_item, is_frozen, elements_in, Updates, element};
 
@@ -59,6 +61,7 @@ impl Regions {
         ensures opened { IfOk result (λ key. Updates self.old self.new key.0 (Some no_cells)) }
         ensures err { OnErr result (self.new ≡ self.old) }
         ensures kept { KeepsSound self.old self.new [] }
+        ensures fixed { KeepsFixed self.old self.new }
     {
         self.insert_region()
     }
@@ -79,6 +82,7 @@ impl Regions {
         requires { IsOpen self.old region }
         ensures closed { self.new ≡ slice_set self.old region.0 None }
         ensures kept { KeepsOutside self.old self.new region }
+        ensures fixed { (r : TheRef) → r.region.0 ≢ region.0 → KeepsFixedAt self.old self.new r }
     {
         self.remove_region(region);
     }
@@ -186,7 +190,7 @@ impl Regions {
     {
         match self.find(r) {
             Some(item) => match &item.body {
-                Body::Box(value) => *value,
+                Body::Box(binding) => binding.get(),
                 _ => unreachable!(),
             },
             None => unreachable!(),

@@ -1,4 +1,6 @@
 ghost use Rattle.std.specs.Prelude.{◌≡◌, ◌<◌, ◌^◌, ◌∷◌, [], length, OnOk, OnErr, slice_get, Some};
+ghost use Rattle.std.specs.List.{list_any};
+ghost use Rattle.ob_values.specs.Values.{ref_eq};
 ghost use Rattle.ob_items.specs.Properties.{values_of};
 ghost use Rattle.ob_values.specs.Freeze.{with_ref, with_refs, refs_of, option_list, frozen_with};
 
@@ -49,12 +51,22 @@ impl Seen {
         }
     }
 
+    pub fn contains(&self, r: Ref) -> bool
+        ensures { result ≡ list_any (ref_eq r) self.now }
+    {
+        self.set.contains(&r)
+    }
+
     pub fn add(&mut self, r: Ref) -> Result<(), NoMemory>
         ensures ok { OnOk result (self.new ≡ with_ref self.old r) }
+        ensures small { OnOk result (length self.new < 2 ^ 63) }
         ensures err { OnErr result (self.new ≡ self.old) }
     {
         match self.set.insert(r) {
-            Ok(_) => Ok(()),
+            Ok(_) => {
+                let _ = self.set.len();
+                Ok(())
+            }
             Err(_) => Err(NoMemory),
         }
     }
@@ -87,6 +99,15 @@ fn add_refs(seen: &mut Seen, refs: &[Ref]) -> Result<(), NoMemory>
     Ok(())
 }
 
+fn add_option(seen: &mut Seen, value: Option<Value>) -> Result<(), NoMemory>
+    ensures { OnOk result (seen.new ≡ with_refs seen.old (refs_of (option_list value))) }
+{
+    match value {
+        Some(value) => add_value(seen, value),
+        None => Ok(()),
+    }
+}
+
 fn add_properties(alloc: Global, seen: &mut Seen, properties: &Properties) -> Result<(), NoMemory>
     ensures { OnOk result (seen.new ≡ with_refs seen.old (refs_of (values_of properties.now))) }
 {
@@ -111,7 +132,7 @@ pub fn add_inside(alloc: Global, seen: &mut Seen, body: &Body) -> Result<(), NoM
     match body {
         Body::Array(values) => add_values(seen, values.as_slice()),
         Body::Object(properties) => add_properties(alloc, seen, properties),
-        Body::Box(Some(value)) => add_value(seen, *value),
+        Body::Box(binding) => add_option(seen, binding.get()),
         Body::Closure(closure) => {
             let closure = closure.get();
             add_closure(seen, closure.boxes.as_slice(), closure.invalidation)

@@ -1,3 +1,5 @@
+mod plain;
+
 use crate::{
     AllocError, CodeKey, ErrorKind, Frame, HookError, Kind, Ref, RegionKey, Regions, SetError,
     Taken, TextError, Value,
@@ -385,6 +387,72 @@ fn a_long_chain_is_frozen(rt: HostRuntime) -> Result<(), Fail> {
     }
     regions.freeze(Value::Ref(last))?;
     assert!(rt; is_frozen(&regions, first) == Some(true));
+    Ok(())
+}
+
+// Each object holds the one before it; 25,000 of them fill a region.
+#[test]
+fn a_chain_of_50000_objects_is_frozen(rt: HostRuntime) -> Result<(), Fail> {
+    let alloc = rt.alloc();
+    let mut regions = Regions::new(alloc);
+    let name = units(alloc, "next")?;
+    let keys = [regions.open()?, regions.open()?];
+    let first = object(&mut regions, keys[0])?;
+    let mut last = first;
+    for key in keys {
+        for _ in 0..24_999 {
+            let r = object(&mut regions, key)?;
+            set_key(&mut regions, r, &name, Value::Ref(last))?;
+            last = r;
+        }
+    }
+    assert!(rt; is_frozen(&regions, first) == Some(false));
+    regions.freeze(Value::Ref(last))?;
+    assert!(rt; is_frozen(&regions, first) == Some(true));
+    assert!(rt; set_key(&mut regions, first, &name, Value::Null) == Err(SetError::Frozen));
+    Ok(())
+}
+
+// An index, what writing 9 there answers, and what stands there afterwards.
+#[test]
+fn arrays_are_read_and_written(rt: HostRuntime) -> Result<(), Fail> {
+    let mut regions = Regions::new(rt.alloc());
+    let key = regions.open()?;
+    let r = array(&mut regions, key, &[Value::Int(5), Value::Int(6)])?;
+    for (index, answer, value) in [
+        (1, Ok(()), Value::Int(9)),
+        (3, Err(SetError::PastEnd), Value::Undefined),
+        (2, Ok(()), Value::Int(9)),
+        (0, Ok(()), Value::Int(9)),
+    ] {
+        assert!(rt; set(&mut regions, r, index, Value::Int(9)) == answer);
+        assert!(rt; at(&regions, r, i64::from(index)) == Some(value));
+    }
+    assert!(rt; elements(&regions, key) == Some(4));
+    regions.freeze(Value::Ref(r))?;
+    for (index, answer) in [(0, SetError::Frozen), (7, SetError::Frozen)] {
+        assert!(rt; set(&mut regions, r, index, Value::Null) == Err(answer));
+    }
+    assert!(rt; at(&regions, r, 0) == Some(Value::Int(9)));
+    assert!(rt; remove(&mut regions, r, 0) == Err(SetError::Frozen));
+    Ok(())
+}
+
+// Marks before and after a freezing of the second of two arrays, which holds the text.
+#[test]
+fn marks_are_read(rt: HostRuntime) -> Result<(), Fail> {
+    let mut regions = Regions::new(rt.alloc());
+    let key = regions.open()?;
+    let held = text(&mut regions, key, &[104])?;
+    let first = array(&mut regions, key, &[])?;
+    let second = array(&mut regions, key, &[Value::Ref(held)])?;
+    for r in [held, first, second] {
+        assert!(rt; is_frozen(&regions, r) == Some(false));
+    }
+    regions.freeze(Value::Ref(second))?;
+    for (r, frozen) in [(held, true), (first, false), (second, true)] {
+        assert!(rt; is_frozen(&regions, r) == Some(frozen));
+    }
     Ok(())
 }
 

@@ -3,14 +3,15 @@ ghost use Rattle.std.specs.Prelude.{[], ◌≡◌, ◌≢◌, ◌+◌, ◌<◌, 
 ghost use Rattle.ob_items.specs.Bodies.{text_of};
 ghost use Rattle.ob_items.specs.Items.{live};
 ghost use Rattle.ob_items.specs.Properties.{no_properties};
+ghost use Rattle.ob_values.specs.Fixed.{KeepsFixed};
 ghost use Rattle.ob_values.specs.Sound.{AddsItem, KeepsSound};
 ghost use Rattle.ob_values.specs.Store.{IsOpen, read_item, elements_in, with_new, next_ref, text_cost, literal_ref, with_literal_in};
 
 use crate::regions::Regions;
 use ob_base::{List, NoMemory, Units};
 use ob_items::{
-    AllocError, Body, Boxed, Closure, CodeKey, ErrorKind, Frame, Item, Properties, Ref, RegionKey,
-    Suspended, Taken, Value,
+    AllocError, Binding, Body, Boxed, Closure, CodeKey, ErrorKind, Frame, Item, Properties, Ref,
+    RegionKey, Suspended, Taken, Value,
 };
 
 impl Regions {
@@ -25,12 +26,18 @@ impl Regions {
         }
     }
 
-    fn add(&mut self, region: RegionKey, body: Body, cost: u32) -> Result<Ref, AllocError>
+    pub(crate) fn add(
+        &mut self,
+        region: RegionKey,
+        body: Body,
+        cost: u32,
+    ) -> Result<Ref, AllocError>
         requires open { IsOpen self.old region }
         requires fits { elements_in self.old region + cost ≤ 50000 }
         ensures memory { result ≢ Err AllocError.HeapFull }
         ensures key { IfOk result (λ r. r ≡ next_ref self.old region) }
         ensures ok { OnOk result (self.new ≡ with_new self.old region (live body) cost) }
+        ensures fixed { OnOk result (KeepsFixed self.old self.new) }
         ensures sound { IfOk result (AddsItem self.old self.new body) }
         ensures err { OnErr result (self.new ≡ self.old) }
     {
@@ -64,6 +71,7 @@ impl Regions {
         requires { IsOpen self.old region }
         ensures key { IfOk result (λ r. r ≡ next_ref self.old region) }
         ensures ok { OnOk result (self.new ≡ with_new self.old region (live body) 0) }
+        ensures fixed { OnOk result (KeepsFixed self.old self.new) }
         ensures sound { IfOk result (AddsItem self.old self.new body) }
         ensures err { OnErr result (self.new ≡ self.old) }
     {
@@ -102,6 +110,7 @@ impl Regions {
         ensures full { result ≡ Err AllocError.HeapFull ↔ (50000 < elements_in self.old region + (1 + length items.now)) }
         ensures key { IfOk result (λ r. r ≡ next_ref self.old region) }
         ensures ok { OnOk result (self.new ≡ with_new self.old region (live (Body.Array items.now)) (1 + length items.now)) }
+        ensures fixed { OnOk result (KeepsFixed self.old self.new) }
         ensures sound { IfOk result (AddsItem self.old self.new (Body.Array items.now)) }
         ensures err { OnErr result (self.new ≡ self.old) }
     {
@@ -124,6 +133,7 @@ impl Regions {
         ensures full { result ≡ Err AllocError.HeapFull ↔ (50000 < elements_in self.old region + 1) }
         ensures key { IfOk result (λ r. r ≡ next_ref self.old region) }
         ensures ok { OnOk result (self.new ≡ with_new self.old region (live (Body.Object no_properties)) 1) }
+        ensures fixed { OnOk result (KeepsFixed self.old self.new) }
         ensures sound { IfOk result (AddsItem self.old self.new (Body.Object no_properties)) }
         ensures err { OnErr result (self.new ≡ self.old) }
     {
@@ -145,6 +155,7 @@ impl Regions {
         ensures full { result ≡ Err AllocError.HeapFull ↔ (50000 < elements_in self.old region + text_cost (length units.now)) }
         ensures key { IfOk result (λ r. r ≡ next_ref self.old region) }
         ensures ok { OnOk result (self.new ≡ with_new self.old region (live (Body.Text units.now)) (text_cost (length units.now))) }
+        ensures fixed { OnOk result (KeepsFixed self.old self.new) }
         ensures sound { IfOk result (AddsItem self.old self.new (Body.Text units.now)) }
         ensures err { OnErr result (self.new ≡ self.old) }
     {
@@ -168,13 +179,14 @@ impl Regions {
         ensures full { result ≡ Err AllocError.HeapFull ↔ (50000 < elements_in self.old region + 1) }
         ensures key { IfOk result (λ r. r ≡ next_ref self.old region) }
         ensures ok { OnOk result (self.new ≡ with_new self.old region (live (Body.Box value)) 1) }
+        ensures fixed { OnOk result (KeepsFixed self.old self.new) }
         ensures sound { IfOk result (AddsItem self.old self.new (Body.Box value)) }
         ensures err { OnErr result (self.new ≡ self.old) }
     {
         if self.is_full_for(region, 1) {
             return Err(AllocError::HeapFull);
         }
-        self.add(region, Body::Box(value), 1)
+        self.add(region, Body::Box(Binding::new(value)), 1)
     }
 
     /// Makes a function value, which costs 1 element: of its code, the boxes of the captured bindings
@@ -195,6 +207,7 @@ impl Regions {
         ensures full { result ≡ Err AllocError.HeapFull ↔ (50000 < elements_in self.old region + 1) }
         ensures key { IfOk result (λ r. r ≡ next_ref self.old region) }
         ensures ok { OnOk result (self.new ≡ with_new self.old region (live (Body.Closure (record { code = code; boxes = boxes.now; inputs = inputs; invalidation = invalidation }))) 1) }
+        ensures fixed { OnOk result (KeepsFixed self.old self.new) }
         ensures sound { IfOk result (AddsItem self.old self.new (Body.Closure (record { code = code; boxes = boxes.now; inputs = inputs; invalidation = invalidation }))) }
         ensures err { OnErr result (self.new ≡ self.old) }
     {
@@ -225,6 +238,7 @@ impl Regions {
         ensures full { result ≡ Err AllocError.HeapFull ↔ (50000 < elements_in self.old region + 1) }
         ensures key { IfOk result (λ r. r ≡ next_ref self.old region) }
         ensures ok { OnOk result (self.new ≡ with_new self.old region (live (Body.Generator (Taken.Held frame))) 1) }
+        ensures fixed { OnOk result (KeepsFixed self.old self.new) }
         ensures sound { IfOk result (AddsItem self.old self.new (Body.Generator (Taken.Held frame))) }
         ensures err { OnErr result (self.new ≡ self.old) }
     {
@@ -251,6 +265,7 @@ impl Regions {
         ensures full { result ≡ Err AllocError.HeapFull ↔ (50000 < elements_in self.old region + 1) }
         ensures key { IfOk result (λ r. r ≡ next_ref self.old region) }
         ensures ok { OnOk result (self.new ≡ with_new self.old region (live (Body.Error kind message)) 1) }
+        ensures fixed { OnOk result (KeepsFixed self.old self.new) }
         ensures sound { IfOk result (AddsItem self.old self.new (Body.Error kind message)) }
         ensures err { OnErr result (self.new ≡ self.old) }
     {
@@ -268,6 +283,7 @@ impl Regions {
         requires { IsOpen self.old region }
         ensures key { IfOk result (λ r. r ≡ next_ref self.old region) }
         ensures ok { OnOk result (self.new ≡ with_new self.old region (live (Body.Invalidation 0)) 0) }
+        ensures fixed { OnOk result (KeepsFixed self.old self.new) }
         ensures sound { IfOk result (AddsItem self.old self.new (Body.Invalidation 0)) }
         ensures err { OnErr result (self.new ≡ self.old) }
     {
@@ -282,6 +298,7 @@ impl Regions {
         requires { IsOpen self.old region }
         ensures key { IfOk result (λ r. r ≡ next_ref self.old region) }
         ensures ok { OnOk result (self.new ≡ with_new self.old region (live (Body.Inputs values.now)) 0) }
+        ensures fixed { OnOk result (KeepsFixed self.old self.new) }
         ensures sound { IfOk result (AddsItem self.old self.new (Body.Inputs values.now)) }
         ensures err { OnErr result (self.new ≡ self.old) }
     {
@@ -298,6 +315,7 @@ impl Regions {
         requires { IsOpen self.old region }
         ensures key { IfOk result (λ r. r ≡ literal_ref self.old region units.now) }
         ensures ok { OnOk result (self.new ≡ with_literal_in self.old region units.now) }
+        ensures fixed { OnOk result (KeepsFixed self.old self.new) }
         ensures text { IfOk result (λ r. read_item text_of self.new r ≡ Some units.now) }
         ensures sound { IfOk result (AddsItem self.old self.new (Body.Text units.now)) }
         ensures kept { KeepsSound self.old self.new [] }

@@ -1,9 +1,11 @@
 //! The calls that write an item.
-ghost use Rattle.std.specs.Prelude.{◌≡◌, ◌+◌, ◌∷◌, [], ◌⊎◌, ◌==◌, false, IsSome, OnOk, OnErr, IfOk, Some, slice_get, pos, ◌≤ℤ◌, remove, unsigned_abs};
+ghost use Rattle.std.specs.Prelude.{◌≡◌, ◌≢◌, ◌+◌, ◌∷◌, [], ◌⊎◌, ◌==◌, false, IsSome, OnOk, OnErr, IfOk, Some, slice_get, pos, ◌≤ℤ◌, remove, unsigned_abs};
 ghost use Rattle.std.specs.Option.{option_map_or};
 ghost use Rattle.ob_items.specs.Bodies.{array_of, properties_of, box_of, hooks_of, kept_of, after_take, kept_from};
 ghost use Rattle.ob_items.specs.Items.{fault_of, element_fault, property_fault, frozen_fault, hook_fault, with_element};
 ghost use Rattle.ob_items.specs.Properties.{with_property};
+ghost use Rattle.ob_items.specs.declared.value.Ref.{Ref as TheRef};
+ghost use Rattle.ob_values.specs.Fixed.{KeepsFixed, KeepsFixedAt};
 ghost use Rattle.ob_values.specs.Sound.{KeepsSound, pointers_of, pointers_of_kept};
 ghost use Rattle.ob_values.specs.Store.{read_item, is_frozen, elements_in, written, with_mark, count_in, is_new_in, hooks_in};
 
@@ -26,6 +28,7 @@ impl Regions {
         ensures ok { OnOk result (self.new ≡ written array_of (with_element (unsigned_abs index) value) self.old r (unsigned_abs index == count_in self.old r)) }
         ensures err { OnErr result (self.new ≡ self.old) }
         ensures kept { KeepsSound self.old self.new (pointers_of (value ∷ [])) }
+        ensures fixed { KeepsFixed self.old self.new }
     {
         self.write_element(r, index as usize, value)
     }
@@ -54,6 +57,7 @@ impl Regions {
         ensures ok { OnOk result (self.new ≡ written properties_of (λ ps. Body.Object (with_property ps key.now value)) self.old r (is_new_in self.old r key.now)) }
         ensures err { OnErr result (self.new ≡ self.old) }
         ensures kept { KeepsSound self.old self.new (pointers_of (value ∷ [])) }
+        ensures fixed { KeepsFixed self.old self.new }
     {
         self.write_key(r, key, value)
     }
@@ -68,6 +72,7 @@ impl Regions {
         ensures ok { OnOk result (self.new ≡ written box_of (λ _. Body.Box (Some value)) self.old r false) }
         ensures err { OnErr result (self.new ≡ self.old) }
         ensures kept { KeepsSound self.old self.new (pointers_of (value ∷ [])) }
+        ensures fixed { KeepsFixed self.old self.new }
     {
         self.write_box(r, value)
     }
@@ -84,6 +89,7 @@ impl Regions {
         ensures ok { OnOk result (self.new ≡ written array_of (λ values. Body.Array (remove values index)) self.old r false) }
         ensures err { OnErr result (self.new ≡ self.old) }
         ensures kept { KeepsSound self.old self.new ([]) }
+        ensures fixed { KeepsFixed self.old self.new }
     {
         self.write_removal(r, index)
     }
@@ -99,6 +105,7 @@ impl Regions {
         ensures ok { OnOk result (self.new ≡ written hooks_of (λ hooks. Body.Invalidation (hooks + 1)) self.old r false) }
         ensures err { OnErr result (self.new ≡ self.old) }
         ensures kept { KeepsSound self.old self.new ([]) }
+        ensures fixed { KeepsFixed self.old self.new }
     {
         self.write_hook(r)
     }
@@ -110,6 +117,7 @@ impl Regions {
         ensures taken { read_item kept_of self.old generator ≡ Some result }
         ensures left { self.new ≡ written kept_of (λ kept. Body.Generator (after_take kept)) self.old generator false }
         ensures kept { KeepsSound self.old self.new ([]) }
+        ensures fixed { (r : TheRef) → (r ≢ generator) ⊎ (is_frozen self.old generator ≡ false) → KeepsFixedAt self.old self.new r }
     {
         self.write_taken(generator)
     }
@@ -119,6 +127,7 @@ impl Regions {
         requires { IsSome (read_item kept_of self.old generator) }
         ensures left { self.new ≡ written kept_of (λ _. Body.Generator (kept_from frame)) self.old generator false }
         ensures kept { KeepsSound self.old self.new (pointers_of_kept (kept_from frame)) }
+        ensures fixed { (r : TheRef) → (r ≢ generator) ⊎ (is_frozen self.old generator ≡ false) → KeepsFixedAt self.old self.new r }
     {
         self.write_put(generator, frame);
     }
