@@ -40,10 +40,11 @@ use Rattle.ob_grammar.proofs.CompleteExpressions.{no_brace, left_is, name_is, vi
 use Rattle.ob_grammar.proofs.CompleteImports.{import_is}
 use Rattle.ob_grammar.proofs.CompleteTaking.{then_is, take_off, before_on, one_on, one_off, name_on, next_on}
 use Rattle.ob_grammar.proofs.Firsts.{First, first_is, first, begins, begins_left}
-use Rattle.ob_grammar.proofs.FunctionTexts.{function_in, function_reads, function_whole, need_whole}
+use Rattle.ob_grammar.proofs.FunctionTexts.{function_in, function_reads, function_whole, need_whole, tall_whole}
 use Rattle.ob_grammar.proofs.Heads.{same_token, kinds_meet, after_name_is, head_no_name, name_from}
 use Rattle.ob_grammar.proofs.Need.{need, need_function, need_block}
-use Rattle.ob_grammar.proofs.Statements.{need_body, CellsAreComplete}
+use Rattle.ob_grammar.proofs.Tall.{tall, tall_function, tall_block}
+use Rattle.ob_grammar.proofs.Statements.{need_body, tall_body, CellsAreComplete}
 use Rattle.ob_grammar.proofs.Stopping.{IsValue, operand_value, fits, quiet, less, rank_semicolon, rank_assign_mark, rank_assign, rank_question}
 use Rattle.ob_grammar.proofs.Tests.{opens_brace_on, is_semicolon_on, is_assign_on}
 
@@ -72,27 +73,27 @@ assign_no_end rest q ts (ended t s) e h = let k = kinds_meet _ _ e s h in differ
 block_brace : {ts : List Token} {items : List Stmt} {rest : List Token} → ReadsBlock ts items rest → next_is opens_brace ts ≡ true
 block_brace (grammar.block t ts rest items h d) = next_on opens_brace t ts true (opens_brace_on t.kind h)
 
-whole_read : {ts : List Token} {a : Expr} {f : Form} {rest : List Token} (d : Reads whole ts a f rest) → AtEnd rest → (m : ℕ) → 1 + need d ≤ m
-    → reads m whole ts ≡ Some (piece a f, rest)
-whole_read {ts = ts} {a = a} {f = f} {rest = rest} d e m le = deeper whole ts (Some (piece a f, rest)) (need d) (complete d (at_end_stops f (fits d) e)) m le
+whole_read : {ts : List Token} {a : Expr} {f : Form} {rest : List Token} (d : Reads whole ts a f rest) → AtEnd rest → (limit : ℕ) → tall d ≤ limit → (m : ℕ) → 1 + need d ≤ m
+    → reads limit m whole ts ≡ Some (piece a f, rest)
+whole_read {ts = ts} {a = a} {f = f} {rest = rest} d e limit top m le = deeper limit whole ts (Some (piece a f, rest)) (need d) (complete limit d (at_end_stops f (fits d) e) top) m le
 
-body_is : {ts : List Token} {g : Function} {rest : List Token} (d : ReadsBody ts g rest) → AtEnd rest → (m : ℕ) → need_body d ≤ m → body_of m ts ≡ Some (g, rest)
+body_is : {ts : List Token} {g : Function} {rest : List Token} (d : ReadsBody ts g rest) → AtEnd rest → (limit : ℕ) → tall_body d ≤ limit → (m : ℕ) → need_body d ≤ m → body_of limit m ts ≡ Some (g, rest)
 unfolding body_of
-body_is (cells.block ts rest items d) e m le = ap (λ b. body_by m b ts) (block_brace d)
-    ∙ then_is (block_of (reads m) (reads_statement m) ts) items rest _ (complete_block d m le)
-body_is (cells.value ts rest a f h d) e m le = ap (λ b. body_by m b ts) (no_brace ts h) ∙ then_is (reads m whole ts) (piece a f) rest _ (whole_read d e m le)
+body_is (cells.block ts rest items d) e limit top m le = ap (λ b. body_by limit m b ts) (block_brace d)
+    ∙ then_is (block_of limit (reads limit m) (reads_statement limit m) ts) items rest _ (complete_block limit d top m le)
+body_is (cells.value ts rest a f h d) e limit top m le = ap (λ b. body_by limit m b ts) (no_brace ts h) ∙ then_is (reads limit m whole ts) (piece a f) rest _ (whole_read d e limit top m le)
 
-bare_block : {ts : List Token} {items : List Stmt} {rest : List Token} (d : ReadsBlock ts items rest) → AtEnd rest → (m : ℕ) → need_block d ≤ m
-    → bare_of m ts ≡ Some (cell.Bare (of_block items))
+bare_block : {ts : List Token} {items : List Stmt} {rest : List Token} (d : ReadsBlock ts items rest) → AtEnd rest → (limit : ℕ) → tall_block d ≤ limit → (m : ℕ) → need_block d ≤ m
+    → bare_of limit m ts ≡ Some (cell.Bare (of_block items))
 unfolding bare_of
-bare_block {ts = ts} {items = items} {rest = rest} d e m le = ap (λ b. all_of (bare_by m b ts)) (block_brace d)
-    ∙ all_is _ (cell.Bare (of_block items)) rest (then_is (block_of (reads m) (reads_statement m) ts) items rest _ (complete_block d m le)) e
+bare_block {ts = ts} {items = items} {rest = rest} d e limit top m le = ap (λ b. all_of (bare_by limit m b ts)) (block_brace d)
+    ∙ all_is _ (cell.Bare (of_block items)) rest (then_is (block_of limit (reads limit m) (reads_statement limit m) ts) items rest _ (complete_block limit d top m le)) e
 
-bare_value : {ts : List Token} {a : Expr} {f : Form} {rest : List Token} → NotMark mark.OpenBrace ts → (d : Reads whole ts a f rest) → AtEnd rest → (m : ℕ) → 1 + need d ≤ m
-    → bare_of m ts ≡ Some (value_cell (next_is is_function ts) a)
+bare_value : {ts : List Token} {a : Expr} {f : Form} {rest : List Token} → NotMark mark.OpenBrace ts → (d : Reads whole ts a f rest) → AtEnd rest → (limit : ℕ) → tall d ≤ limit → (m : ℕ) → 1 + need d ≤ m
+    → bare_of limit m ts ≡ Some (value_cell (next_is is_function ts) a)
 unfolding bare_of
-bare_value {ts = ts} {a = a} {f = f} {rest = rest} h d e m le = ap (λ b. all_of (bare_by m b ts)) (no_brace ts h)
-    ∙ all_is _ (value_cell (next_is is_function ts) a) rest (then_is (reads m whole ts) (piece a f) rest _ (whole_read d e m le)) e
+bare_value {ts = ts} {a = a} {f = f} {rest = rest} h d e limit top m le = ap (λ b. all_of (bare_by limit m b ts)) (no_brace ts h)
+    ∙ all_is _ (value_cell (next_is is_function ts) a) rest (then_is (reads limit m whole ts) (piece a f) rest _ (whole_read d e limit top m le)) e
 
 -- ---- an expression that is no function cell
 
@@ -123,9 +124,9 @@ value_cell_is t ts a f rest d e other = by_word t ts a f rest d e other (is_func
 
 -- ---- a name and `=` before a body
 
-head_on : (m : ℕ) (n q : Token) (ts : List Token) (x : List ℕ) → IsName x n → IsMark mark.Assign q → cell_head m (n ∷ q ∷ ts) ≡ Some (x, ts)
+head_on : (limit m : ℕ) (n q : Token) (ts : List Token) (x : List ℕ) → IsName x n → IsMark mark.Assign q → cell_head limit m (n ∷ q ∷ ts) ≡ Some (x, ts)
 unfolding cell_head
-head_on m n q ts x h hq = then_is (one name_of (n ∷ q ∷ ts)) x (q ∷ ts) _ (one_on name_of x n (q ∷ ts) (name_on n x h)) ∙ before_on is_assign x q ts (is_assign_on q.kind hq)
+head_on limit m n q ts x h hq = then_is (one name_of (n ∷ q ∷ ts)) x (q ∷ ts) _ (one_on name_of x n (q ∷ ts) (name_on n x h)) ∙ before_on is_assign x q ts (is_assign_on q.kind hq)
 
 assign_from : (k : TokenKind) → is_assign k ≡ true → k ≡ kind.Punctuator mark.Assign
 unfolding is_assign
@@ -141,16 +142,16 @@ unfolding take
 assign_none x [] n = refl
 assign_none x (q ∷ us) n = assign_by x q us (is_assign q.kind) refl (n q us refl)
 
-name_by : (m : ℕ) (n : Token) (ts : List Token) (o : Option (List ℕ)) → name_of n.kind ≡ o
-    → ((q : Token) (us : List Token) (x : List ℕ) → ts ≡ q ∷ us → IsName x n → IsMark mark.Assign q → ⊥) → cell_head m (n ∷ ts) ≡ None
+name_by : (limit m : ℕ) (n : Token) (ts : List Token) (o : Option (List ℕ)) → name_of n.kind ≡ o
+    → ((q : Token) (us : List Token) (x : List ℕ) → ts ≡ q ∷ us → IsName x n → IsMark mark.Assign q → ⊥) → cell_head limit m (n ∷ ts) ≡ None
 unfolding cell_head
-name_by m n ts None h w = ap (λ r. r >>= λ x mid. before is_assign x mid) (one_off name_of n ts h)
-name_by m n ts (Some x) h w = then_is (one name_of (n ∷ ts)) x ts _ (one_on name_of x n ts h) ∙ assign_none x ts (λ q us e hq. w q us x e (name_from n.kind x h) hq)
+name_by limit m n ts None h w = ap (λ r. r >>= λ x mid. before is_assign x mid) (one_off name_of n ts h)
+name_by limit m n ts (Some x) h w = then_is (one name_of (n ∷ ts)) x ts _ (one_on name_of x n ts h) ∙ assign_none x ts (λ q us e hq. w q us x e (name_from n.kind x h) hq)
 
-head_off : (m : ℕ) (ts : List Token) → ((n q : Token) (us : List Token) (x : List ℕ) → ts ≡ n ∷ q ∷ us → IsName x n → IsMark mark.Assign q → ⊥) → cell_head m ts ≡ None
+head_off : (limit m : ℕ) (ts : List Token) → ((n q : Token) (us : List Token) (x : List ℕ) → ts ≡ n ∷ q ∷ us → IsName x n → IsMark mark.Assign q → ⊥) → cell_head limit m ts ≡ None
 unfolding cell_head one
-head_off m [] w = refl
-head_off m (n ∷ ts) w = name_by m n ts (name_of n.kind) refl (λ q us x e h hq. w n q us x (ap (λ vs. n ∷ vs) e) h hq)
+head_off limit m [] w = refl
+head_off limit m (n ∷ ts) w = name_by limit m n ts (name_of n.kind) refl (λ q us x e h hq. w n q us x (ap (λ vs. n ∷ vs) e) h hq)
 
 -- ---- a name and `=` read as a bare cell have an early error
 
@@ -172,19 +173,19 @@ one_reading : {r : Read Piece} {p q : Piece × List Token} → r ≡ Some p → 
 one_reading {p = p} h e = ap (read_or p) (sym h ∙ e)
 
 -- a name before `=` is read as such
-name_left : (m : ℕ) (t q : Token) (ts : List Token) (x : List ℕ) → IsName x t → IsMark mark.Assign q
-    → left_of (reads m) (reads_statement m) (t ∷ q ∷ ts) ≡ Some (piece (node.Name x) Target, q ∷ ts)
-name_left m t q ts x h hq = left_is (reads m) (reads_statement m) (t ∷ q ∷ ts) (q ∷ ts) (q ∷ ts) (piece (node.Name x) Target) (piece (node.Name x) Target)
-    (name_is (reads m) (reads_statement m) t (q ∷ ts) x h)
-    (steps_stop (reads m) (reads_statement m) (length (q ∷ ts)) (node.Name x) Target (q ∷ ts) tt (omega (arith, rank_assign_mark q hq)))
+name_left : (limit m : ℕ) (t q : Token) (ts : List Token) (x : List ℕ) → IsName x t → IsMark mark.Assign q
+    → left_of limit (reads limit m) (reads_statement limit m) (t ∷ q ∷ ts) ≡ Some (piece (node.Name x) Target, q ∷ ts)
+name_left limit m t q ts x h hq = left_is limit (reads limit m) (reads_statement limit m) (t ∷ q ∷ ts) (q ∷ ts) (q ∷ ts) (piece (node.Name x) Target) (piece (node.Name x) Target)
+    (name_is limit (reads limit m) (reads_statement limit m) t (q ∷ ts) x h)
+    (steps_stop limit (reads limit m) (reads_statement limit m) (length (q ∷ ts)) (node.Name x) Target (q ∷ ts) tt (omega (arith, rank_assign_mark q hq)))
 
 -- the target of an assignment that begins with a name and `=`
 target_is : (t q : Token) (ts : List Token) (x : List ℕ) {all : List Token} {a : Expr} {rest : List Token} (d : Reads left all a Target rest) → all ≡ t ∷ q ∷ ts → IsName x t
     → IsMark mark.Assign q → Stops Target 1 rest → a ≡ node.Name x
 target_is t q ts x {a = a} {rest = rest} d e h hq s =
-    let k : left_of (reads (need d)) (reads_statement (need d)) (t ∷ q ∷ ts) ≡ Some (piece a Target, rest) =
-    subst (λ (us : List Token). left_of (reads (need d)) (reads_statement (need d)) us ≡ Some (piece a Target, rest)) e (complete d s (need d) (omega arith)) in
-    ap (λ (p : Piece × List Token). p.0.tree) (one_reading k (name_left (need d) t q ts x h hq))
+    let k : left_of (tall d) (reads (tall d) (need d)) (reads_statement (tall d) (need d)) (t ∷ q ∷ ts) ≡ Some (piece a Target, rest) =
+    subst (λ (us : List Token). left_of (tall d) (reads (tall d) (need d)) (reads_statement (tall d) (need d)) us ≡ Some (piece a Target, rest)) e (complete (tall d) d s (omega arith) (need d) (omega arith)) in
+    ap (λ (p : Piece × List Token). p.0.tree) (one_reading k (name_left (tall d) (need d) t q ts x h hq))
 
 true_false : (b : Bool) → b ≡ true → b ≡ false → ⊥
 true_false b h e = cc
@@ -207,20 +208,20 @@ assigned_name _ (inr e) t q ts x al hx hq s w = cc
 
 -- ---- `viewof`, a name and `=` read as no bare cell
 
-view_left : (m : ℕ) (t n q : Token) (ts : List Token) (x : List ℕ) → IsWord word.Viewof t → IsName x n → IsMark mark.Assign q
-    → left_of (reads m) (reads_statement m) (t ∷ n ∷ q ∷ ts) ≡ Some (piece (node.ViewofName x) Other, q ∷ ts)
-view_left m t n q ts x h hn hq = left_is (reads m) (reads_statement m) (t ∷ n ∷ q ∷ ts) (q ∷ ts) (q ∷ ts) (piece (node.ViewofName x) Other) (piece (node.ViewofName x) Other)
-    (viewof_is (reads m) (reads_statement m) t n (q ∷ ts) x h hn)
-    (steps_stop (reads m) (reads_statement m) (length (q ∷ ts)) (node.ViewofName x) Other (q ∷ ts) tt (omega (arith, rank_assign_mark q hq)))
+view_left : (limit m : ℕ) (t n q : Token) (ts : List Token) (x : List ℕ) → IsWord word.Viewof t → IsName x n → IsMark mark.Assign q
+    → left_of limit (reads limit m) (reads_statement limit m) (t ∷ n ∷ q ∷ ts) ≡ Some (piece (node.ViewofName x) Other, q ∷ ts)
+view_left limit m t n q ts x h hn hq = left_is limit (reads limit m) (reads_statement limit m) (t ∷ n ∷ q ∷ ts) (q ∷ ts) (q ∷ ts) (piece (node.ViewofName x) Other) (piece (node.ViewofName x) Other)
+    (viewof_is limit (reads limit m) (reads_statement limit m) t n (q ∷ ts) x h hn)
+    (steps_stop limit (reads limit m) (reads_statement limit m) (length (q ∷ ts)) (node.ViewofName x) Other (q ∷ ts) tt (omega (arith, rank_assign_mark q hq)))
 
 viewof_begins : (t : Token) (ts : List Token) → IsWord word.Viewof t → First begins_left (t ∷ ts)
 unfolding begins_left
 viewof_begins t ts h = first_is begins_left t ts (ap begins_left h)
 
-view_short : (m : ℕ) (t n q : Token) (ts : List Token) (x : List ℕ) → IsWord word.Viewof t → IsName x n → IsMark mark.Assign q
-    → short_of (reads m) (reads_statement m) (t ∷ n ∷ q ∷ ts) ≡ Some (piece (node.ViewofName x) Other, q ∷ ts)
-view_short m t n q ts x h hn hq = left_short (reads m) (reads_statement m) (t ∷ n ∷ q ∷ ts) ts q (node.ViewofName x) Other (viewof_begins t (n ∷ q ∷ ts) h) tt
-    (view_left m t n q ts x h hn hq) (rank_assign_mark q hq)
+view_short : (limit m : ℕ) (t n q : Token) (ts : List Token) (x : List ℕ) → IsWord word.Viewof t → IsName x n → IsMark mark.Assign q
+    → short_of limit (reads limit m) (reads_statement limit m) (t ∷ n ∷ q ∷ ts) ≡ Some (piece (node.ViewofName x) Other, q ∷ ts)
+view_short limit m t n q ts x h hn hq = left_short limit (reads limit m) (reads_statement limit m) (t ∷ n ∷ q ∷ ts) ts q (node.ViewofName x) Other (viewof_begins t (n ∷ q ∷ ts) h) tt
+    (view_left limit m t n q ts x h hn hq) (rank_assign_mark q hq)
 
 target_not_other : Target ≡ Other → ⊥
 target_not_other e = cc
@@ -239,16 +240,16 @@ head_no_viewof (all_params us rest xs (params u vs r ys h d)) t ts e hx = open_n
 view_rest : (t n q : Token) (ts : List Token) (x : List ℕ) {all : List Token} {a : Expr} {f : Form} {rest : List Token} (d : Reads short all a f rest) → all ≡ t ∷ n ∷ q ∷ ts
     → IsWord word.Viewof t → IsName x n → IsMark mark.Assign q → Stops f 14 rest → rest ≡ q ∷ ts
 view_rest t n q ts x {a = a} {f = f} {rest = rest} d e h hn hq s =
-    let k : short_of (reads (need d)) (reads_statement (need d)) (t ∷ n ∷ q ∷ ts) ≡ Some (piece a f, rest) =
-    subst (λ (us : List Token). short_of (reads (need d)) (reads_statement (need d)) us ≡ Some (piece a f, rest)) e (complete d s (need d) (omega arith)) in
-    ap (λ (p : Piece × List Token). p.1) (one_reading k (view_short (need d) t n q ts x h hn hq))
+    let k : short_of (tall d) (reads (tall d) (need d)) (reads_statement (tall d) (need d)) (t ∷ n ∷ q ∷ ts) ≡ Some (piece a f, rest) =
+    subst (λ (us : List Token). short_of (tall d) (reads (tall d) (need d)) (reads_statement (tall d) (need d)) us ≡ Some (piece a f, rest)) e (complete (tall d) d s (omega arith) (need d) (omega arith)) in
+    ap (λ (p : Piece × List Token). p.1) (one_reading k (view_short (tall d) (need d) t n q ts x h hn hq))
 
 view_form : (t n q : Token) (ts : List Token) (x : List ℕ) {all : List Token} {a : Expr} {f : Form} {rest : List Token} (d : Reads left all a f rest) → all ≡ t ∷ n ∷ q ∷ ts
     → IsWord word.Viewof t → IsName x n → IsMark mark.Assign q → Stops f 1 rest → f ≡ Other
 view_form t n q ts x {a = a} {f = f} {rest = rest} d e h hn hq s =
-    let k : left_of (reads (need d)) (reads_statement (need d)) (t ∷ n ∷ q ∷ ts) ≡ Some (piece a f, rest) =
-    subst (λ (us : List Token). left_of (reads (need d)) (reads_statement (need d)) us ≡ Some (piece a f, rest)) e (complete d s (need d) (omega arith)) in
-    ap (λ (p : Piece × List Token). p.0.form) (one_reading k (view_left (need d) t n q ts x h hn hq))
+    let k : left_of (tall d) (reads (tall d) (need d)) (reads_statement (tall d) (need d)) (t ∷ n ∷ q ∷ ts) ≡ Some (piece a f, rest) =
+    subst (λ (us : List Token). left_of (tall d) (reads (tall d) (need d)) (reads_statement (tall d) (need d)) us ≡ Some (piece a f, rest)) e (complete (tall d) d s (omega arith) (need d) (omega arith)) in
+    ap (λ (p : Piece × List Token). p.0.form) (one_reading k (view_left (tall d) (need d) t n q ts x h hn hq))
 
 no_view : {r : Rule} {all : List Token} {a : Expr} {f : Form} {rest : List Token} → Reads r all a f rest → (r ≡ whole) ⊎ (r ≡ conditional) → (t n q : Token) (ts : List Token) (x : List ℕ)
     → all ≡ t ∷ n ∷ q ∷ ts → IsWord word.Viewof t → IsName x n → IsMark mark.Assign q → AtEnd rest → ⊥
@@ -265,39 +266,39 @@ no_view _ (inr w) t n q ts x e h hn hq s = cc
 
 -- ---- cells, by their first token
 
-cell_at : (m : ℕ) (t : Token) (ts : List Token) (k : TokenKind) → t.kind ≡ k → cell_of m (t ∷ ts) ≡ cell_by m k t ts
+cell_at : (limit m : ℕ) (t : Token) (ts : List Token) (k : TokenKind) → t.kind ≡ k → cell_of limit m (t ∷ ts) ≡ cell_by limit m k t ts
 unfolding cell_of
-cell_at m t ts k h = ap (λ x. cell_by m x t ts) h
+cell_at limit m t ts k h = ap (λ x. cell_by limit m x t ts) h
 
-by_bare : (m : ℕ) (k : TokenKind) (t : Token) (ts : List Token) → begins k ≡ true → (k ≡ kind.Reserved word.Viewof → cell_head m ts ≡ None)
-    → ((x : List ℕ) → k ≡ kind.Name x → cell_head m (t ∷ ts) ≡ None) → cell_by m k t ts ≡ bare_of m (t ∷ ts)
+by_bare : (limit m : ℕ) (k : TokenKind) (t : Token) (ts : List Token) → begins k ≡ true → (k ≡ kind.Reserved word.Viewof → cell_head limit m ts ≡ None)
+    → ((x : List ℕ) → k ≡ kind.Name x → cell_head limit m (t ∷ ts) ≡ None) → cell_by limit m k t ts ≡ bare_of limit m (t ∷ ts)
 unfolding cell_by begins
-by_bare m (kind.Reserved word.Import) t ts h v n = cc
-by_bare m (kind.Reserved word.Viewof) t ts h v n = ap (λ o. headed m cell.View o (t ∷ ts)) (v refl)
-by_bare m (kind.Reserved word.Mutable) t ts h v n = cc
-by_bare m (kind.Name x) t ts h v n = ap (λ o. headed m cell.Named o (t ∷ ts)) (n x refl)
-by_bare m _ t ts h v n = refl
+by_bare limit m (kind.Reserved word.Import) t ts h v n = cc
+by_bare limit m (kind.Reserved word.Viewof) t ts h v n = ap (λ o. headed limit m cell.View o (t ∷ ts)) (v refl)
+by_bare limit m (kind.Reserved word.Mutable) t ts h v n = cc
+by_bare limit m (kind.Name x) t ts h v n = ap (λ o. headed limit m cell.Named o (t ∷ ts)) (n x refl)
+by_bare limit m _ t ts h v n = refl
 
-block_at : {ts : List Token} {items : List Stmt} {rest : List Token} (m : ℕ) → ReadsBlock ts items rest → cell_of m ts ≡ bare_of m ts
+block_at : {ts : List Token} {items : List Stmt} {rest : List Token} (limit m : ℕ) → ReadsBlock ts items rest → cell_of limit m ts ≡ bare_of limit m ts
 unfolding cell_by
-block_at m (grammar.block t ts rest items h d) = cell_at m t ts (kind.Punctuator mark.OpenBrace) h
+block_at limit m (grammar.block t ts rest items h d) = cell_at limit m t ts (kind.Punctuator mark.OpenBrace) h
 
 begun : {t : Token} {ts : List Token} → First begins (t ∷ ts) → begins t.kind ≡ true
 begun p = ap (λ (v : Token). begins v.kind) (same_token p.is) ∙ p.passes
 
-value_at : (m : ℕ) (t : Token) (ts : List Token) (a : Expr) (f : Form) (rest : List Token) → Reads whole (t ∷ ts) a f rest → AtEnd rest
-    → is_free_of_errors (cell.Bare (of_value a)) ≡ true → cell_of m (t ∷ ts) ≡ bare_of m (t ∷ ts)
-value_at m t ts a f rest d e w = cell_at m t ts t.kind refl ∙ by_bare m t.kind t ts (begun (first d))
-    (λ h. head_off m ts (λ n q us x i hn hq. no_view d (inl refl) t n q us x (ap (λ vs. t ∷ vs) i) h hn hq e))
-    (λ x h. head_off m (t ∷ ts) (λ n q us y i hn hq. assigned_name d (inl refl) n q us y i hn hq e w))
+value_at : (limit m : ℕ) (t : Token) (ts : List Token) (a : Expr) (f : Form) (rest : List Token) → Reads whole (t ∷ ts) a f rest → AtEnd rest
+    → is_free_of_errors (cell.Bare (of_value a)) ≡ true → cell_of limit m (t ∷ ts) ≡ bare_of limit m (t ∷ ts)
+value_at limit m t ts a f rest d e w = cell_at limit m t ts t.kind refl ∙ by_bare limit m t.kind t ts (begun (first d))
+    (λ h. head_off limit m ts (λ n q us x i hn hq. no_view d (inl refl) t n q us x (ap (λ vs. t ∷ vs) i) h hn hq e))
+    (λ x h. head_off limit m (t ∷ ts) (λ n q us y i hn hq. assigned_name d (inl refl) n q us y i hn hq e w))
 
-bare_value_is : (m : ℕ) (ts : List Token) (a : Expr) (f : Form) (rest : List Token) → NotMark mark.OpenBrace ts → (d : Reads whole ts a f rest) → AtEnd rest
-    → ((g : Function) → IsFunctionText ts g → ⊥) → is_free_of_errors (cell.Bare (of_value a)) ≡ true → 1 + need d ≤ m → cell_of m ts ≡ Some (cell.Bare (of_value a))
-bare_value_is m [] a f rest h d e other w le = absurd (nothing (first d))
+bare_value_is : (limit m : ℕ) (ts : List Token) (a : Expr) (f : Form) (rest : List Token) → NotMark mark.OpenBrace ts → (d : Reads whole ts a f rest) → AtEnd rest
+    → ((g : Function) → IsFunctionText ts g → ⊥) → is_free_of_errors (cell.Bare (of_value a)) ≡ true → tall d ≤ limit → 1 + need d ≤ m → cell_of limit m ts ≡ Some (cell.Bare (of_value a))
+bare_value_is limit m [] a f rest h d e other w top le = absurd (nothing (first d))
   where
     nothing : First begins [] → ⊥
     nothing p = let q = p.is in cc
-bare_value_is m (t ∷ ts) a f rest h d e other w le = value_at m t ts a f rest d e w ∙ bare_value h d e m le ∙ ap Some (value_cell_is t ts a f rest d e other)
+bare_value_is limit m (t ∷ ts) a f rest h d e other w top le = value_at limit m t ts a f rest d e w ∙ bare_value h d e limit top m le ∙ ap Some (value_cell_is t ts a f rest d e other)
 
 -- ---- function cells
 
@@ -308,42 +309,42 @@ function_begins (function t ts mid rest s items h1 h2 d1) = (ap is_function h1, 
     differ : kind.Reserved word.Function ≡ kind.Punctuator mark.OpenBrace → ⊥
     differ k = cc
 
-function_at : {ts : List Token} {g : Function} {rest : List Token} (m : ℕ) → ReadsFunction ts g rest → cell_of m ts ≡ bare_of m ts
+function_at : {ts : List Token} {g : Function} {rest : List Token} (limit m : ℕ) → ReadsFunction ts g rest → cell_of limit m ts ≡ bare_of limit m ts
 unfolding cell_by
-function_at m (function t ts mid rest s items h1 h2 d1) = cell_at m t ts (kind.Reserved word.Function) h1
+function_at limit m (function t ts mid rest s items h1 h2 d1) = cell_at limit m t ts (kind.Reserved word.Function) h1
 
 function_layer : (g : Function) → out-Expr (node.Function g) ≡ layer.Expr::Function g
 function_layer g = search (rules, the_lemmas)
 
-function_cell_is : (m : ℕ) (ts : List Token) (g : Function) (d : IsFunctionText ts g) → 1 + need_function d.reads ≤ m → cell_of m ts ≡ Some (cell.Function g)
-function_cell_is m ts g d le =
+function_cell_is : (limit m : ℕ) (ts : List Token) (g : Function) (d : IsFunctionText ts g) → tall_function d.reads ≤ limit → 1 + need_function d.reads ≤ m → cell_of limit m ts ≡ Some (cell.Function g)
+function_cell_is limit m ts g d top le =
     let p = function_begins d.reads in
-    function_at m d.reads ∙ bare_value p.1 (function_whole d.reads) d.ends m (let q = need_whole d.reads in omega arith)
+    function_at limit m d.reads ∙ bare_value p.1 (function_whole d.reads) d.ends limit (let q = tall_whole d.reads in omega arith) m (let q = need_whole d.reads in omega arith)
     ∙ ap (λ b. Some (value_cell b (node.Function g))) p.0 ∙ ap (λ o. Some (function_by o (node.Function g))) (function_layer g)
     ∙ ap (λ o. Some (named_cell o g (node.Function g))) d.named
 
 -- ---- cells
 
-import_at : {ts : List Token} {i : ImportTree} {rest : List Token} (m : ℕ) → ReadsImport ts i rest → AtEnd rest → cell_of m ts ≡ Some (cell.Import i)
+import_at : {ts : List Token} {i : ImportTree} {rest : List Token} (limit m : ℕ) → ReadsImport ts i rest → AtEnd rest → cell_of limit m ts ≡ Some (cell.Import i)
 unfolding cell_by
-import_at m (cells.import t o q ts mid rest list given id ht d w ho hq) e = cell_at m t ts (kind.Reserved word.Import) ht
+import_at limit m (cells.import t o q ts mid rest list given id ht d w ho hq) e = cell_at limit m t ts (kind.Reserved word.Import) ht
     ∙ all_is _ (cell.Import (record { specs = list; with = given; from = id })) rest
     (then_is (import_of ts) (record { specs = list; with = given; from = id }) rest _ (import_is o q ts mid rest list given id d w ho hq)) e
 
-headed_is : (m : ℕ) (make : List ℕ → Function → CellTree) (x : List ℕ) (ts : List Token) (g : Function) (rest all : List Token) (o : Read (List ℕ)) → o ≡ Some (x, ts)
-    → body_of m ts ≡ Some (g, rest) → AtEnd rest → headed m make o all ≡ Some (make x g)
-headed_is m make x ts g rest all o h d e = ap (λ r. headed m make r all) h ∙ all_is _ (make x g) rest (then_is (body_of m ts) g rest _ d) e
+headed_is : (limit m : ℕ) (make : List ℕ → Function → CellTree) (x : List ℕ) (ts : List Token) (g : Function) (rest all : List Token) (o : Read (List ℕ)) → o ≡ Some (x, ts)
+    → body_of limit m ts ≡ Some (g, rest) → AtEnd rest → headed limit m make o all ≡ Some (make x g)
+headed_is limit m make x ts g rest all o h d e = ap (λ r. headed limit m make r all) h ∙ all_is _ (make x g) rest (then_is (body_of limit m ts) g rest _ d) e
 
 pub cells_are_complete : CellsAreComplete
 unfolding cell_of cell_by
-cells_are_complete _ _ cells.nothing w m le = refl
-cells_are_complete _ _ (cells.imported ts rest i d e) w m le = import_at m d e
-cells_are_complete _ _ (cells.function_cell ts g d) w m le = function_cell_is m ts g d le
-cells_are_complete _ _ (cells.bare ts rest g (cells.block us rest2 items d) e other) w m le = block_at m d ∙ bare_block d e m le
-cells_are_complete _ _ (cells.bare ts rest g (cells.value us rest2 a f h d) e other) w m le = bare_value_is m ts a f rest h d e other w le
-cells_are_complete _ _ (cells.named n q ts rest x g hn hq d e) w m le = cell_at m n (q ∷ ts) (kind.Name x) hn
-    ∙ headed_is m cell.Named x ts g rest (n ∷ q ∷ ts) _ (head_on m n q ts x hn hq) (body_is d e m le) e
-cells_are_complete _ _ (cells.view t n q ts rest x g ht hn hq d e) w m le = cell_at m t (n ∷ q ∷ ts) (kind.Reserved word.Viewof) ht
-    ∙ headed_is m cell.View x ts g rest (t ∷ n ∷ q ∷ ts) _ (head_on m n q ts x hn hq) (body_is d e m le) e
-cells_are_complete _ _ (cells.mutable_cell t n q ts rest x g ht hn hq d e) w m le = cell_at m t (n ∷ q ∷ ts) (kind.Reserved word.Mutable) ht
-    ∙ headed_is m cell.Mutable x ts g rest (t ∷ n ∷ q ∷ ts) _ (head_on m n q ts x hn hq) (body_is d e m le) e
+cells_are_complete _ _ cells.nothing w limit top m le = refl
+cells_are_complete _ _ (cells.imported ts rest i d e) w limit top m le = import_at limit m d e
+cells_are_complete _ _ (cells.function_cell ts g d) w limit top m le = function_cell_is limit m ts g d top le
+cells_are_complete _ _ (cells.bare ts rest g (cells.block us rest2 items d) e other) w limit top m le = block_at limit m d ∙ bare_block d e limit top m le
+cells_are_complete _ _ (cells.bare ts rest g (cells.value us rest2 a f h d) e other) w limit top m le = bare_value_is limit m ts a f rest h d e other w top le
+cells_are_complete _ _ (cells.named n q ts rest x g hn hq d e) w limit top m le = cell_at limit m n (q ∷ ts) (kind.Name x) hn
+    ∙ headed_is limit m cell.Named x ts g rest (n ∷ q ∷ ts) _ (head_on limit m n q ts x hn hq) (body_is d e limit top m le) e
+cells_are_complete _ _ (cells.view t n q ts rest x g ht hn hq d e) w limit top m le = cell_at limit m t (n ∷ q ∷ ts) (kind.Reserved word.Viewof) ht
+    ∙ headed_is limit m cell.View x ts g rest (t ∷ n ∷ q ∷ ts) _ (head_on limit m n q ts x hn hq) (body_is d e limit top m le) e
+cells_are_complete _ _ (cells.mutable_cell t n q ts rest x g ht hn hq d e) w limit top m le = cell_at limit m t (n ∷ q ∷ ts) (kind.Reserved word.Mutable) ht
+    ∙ headed_is limit m cell.Mutable x ts g rest (t ∷ n ∷ q ∷ ts) _ (head_on limit m n q ts x hn hq) (body_is d e limit top m le) e

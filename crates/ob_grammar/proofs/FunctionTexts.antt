@@ -33,6 +33,7 @@ use Rattle.ob_grammar.specs.Grammar.{Rule, whole, chain, power, Reads, Continues
 use Rattle.ob_grammar.specs.Grammar.{arrow, assigned, unassigned, chosen, unchosen, disjoined, coalesced, operands, unraised, raised, signed, unsigned, counted_before, counted_behind, uncounted, steps, literal, name, viewof_name, made, parentheses, array, object, function_expression, no_more, goes_on, no_step, member, index, call}
 use Rattle.ob_grammar.proofs.Heads.{kinds_meet}
 use Rattle.ob_grammar.proofs.Need.{need, need_function}
+use Rattle.ob_grammar.proofs.Tall.{tall, tall_function}
 
 -- the function that an expression is
 abbrev pub function_in : layer.Expr-F DeclValue Expr FnBody ForHead PropNode Stmt CatchPart Decl Function → Option Function
@@ -174,6 +175,11 @@ unfolding up
 need_up zero d = omega arith
 need_up (suc k) d = omega (arith, need_up k d)
 
+tall_up : (k : ℕ) {ts : List Token} {a : Expr} {f : Form} {rest : List Token} (d : Reads power ts a f rest) → tall (up k d) ≤ tall d
+unfolding up
+tall_up zero d = omega arith
+tall_up (suc k) d = omega (arith, tall_up k d)
+
 -- a function, with nothing behind it, as an operand
 abbrev function_power : {ts : List Token} {g : Function} {rest : List Token} → ReadsFunction ts g rest → Reads power ts (node.Function g) Other rest
 function_power {ts = ts} {g = g} {rest = rest} d = unraised ts rest (node.Function g) Other (unsigned ts rest (node.Function g) Other (uncounted ts rest (node.Function g) Other
@@ -185,3 +191,6 @@ function_whole {ts = ts} {g = g} {rest = rest} d = unassigned ts rest (node.Func
 
 pub need_whole : {ts : List Token} {g : Function} {rest : List Token} (d : ReadsFunction ts g rest) → need (function_whole d) ≤ need_function d
 need_whole d = let q = need_up 7 (function_power d) in omega arith
+
+pub tall_whole : {ts : List Token} {g : Function} {rest : List Token} (d : ReadsFunction ts g rest) → tall (function_whole d) ≤ tall_function d
+tall_whole d = let q = tall_up 7 (function_power d) in omega arith

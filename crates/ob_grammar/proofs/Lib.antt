@@ -30,5 +30,8 @@ pub mod SoundTokens
 pub mod Starts
 pub mod Statements
 pub mod Stopping
+pub mod Tall
+pub mod TallBound
 pub mod Tests
+pub mod Texts
 pub mod Unique

@@ -8,8 +8,8 @@ use Rattle.ob_tree_types.specs.declared.cell.CellTree.{CellTree}
 use Rattle.ob_grammar.specs.Early.{is_free_of_errors}
 use Rattle.ob_grammar.specs.Limits.{most_open}
 use Rattle.ob_grammar.specs.Readable.{Reads}
-use Rattle.ob_grammar.specs.ReadingCells.{cell_of, if_readable, parsed_by, parsed}
-use Rattle.ob_grammar.proofs.Statements.{CellsAreSound, CellsAreComplete, CellsNestWithin, ParsedIsReadable}
+use Rattle.ob_grammar.specs.ReadingCells.{cell_of, depth_limit, if_readable, parsed_by, parsed}
+use Rattle.ob_grammar.proofs.Statements.{CellsAreSound, CellsAreComplete, CellsNestWithin, CellsBuildWithin, ParsedIsReadable}
 
 record Kept (test : Bool) (a b : CellTree) : Type 0 where
   passes : test ≡ true
@@ -34,17 +34,17 @@ found (Some a) tree h = at (kept (nat_le (depth_of a) 200 && is_free_of_errors a
 
 readable : CellsAreSound → (ts : List Token) (tree : CellTree) (b : Bool) → nat_le (most_open 0 ts) 500 ≡ b → parsed_by b ts ≡ Some tree
     → Reads ts tree
-readable sound ts tree true e h = let f = found (cell_of 701 ts) tree h in
-    record { derives = sound 701 ts tree f.found; errors = f.errors; depth = f.depth; brackets = leb-true (most_open 0 ts) 500 e }
+readable sound ts tree true e h = let f = found (cell_of depth_limit 701 ts) tree h in
+    record { derives = sound depth_limit 701 ts tree f.found; errors = f.errors; depth = f.depth; brackets = leb-true (most_open 0 ts) 500 e }
 readable sound ts tree false e h = cc
 
-is_parsed : CellsAreComplete → CellsNestWithin → (ts : List Token) (tree : CellTree) → Reads ts tree → parsed ts ≡ Some tree
+is_parsed : CellsAreComplete → CellsNestWithin → CellsBuildWithin → (ts : List Token) (tree : CellTree) → Reads ts tree → parsed ts ≡ Some tree
 unfolding parsed
-is_parsed complete nests ts tree r =
+is_parsed complete nests builds ts tree r =
     ap (λ b. parsed_by b ts) (le-leb (most_open 0 ts) 500 r.brackets)
-    ∙ ap if_readable (complete ts tree r.derives r.errors 701 (omega (arith, nests ts tree r.derives, r.depth, r.brackets)))
+    ∙ ap if_readable (complete ts tree r.derives r.errors depth_limit (omega (arith, builds ts tree r.derives, r.depth)) 701 (omega (arith, nests ts tree r.derives, r.depth, r.brackets)))
     ∙ ap (λ b. if b then Some tree else None) (and_from (nat_le (depth_of tree) 200) (is_free_of_errors tree) (le-leb (depth_of tree) 200 r.depth) r.errors)
 
-pub parsed_is_readable : CellsAreSound → CellsAreComplete → CellsNestWithin → ParsedIsReadable
+pub parsed_is_readable : CellsAreSound → CellsAreComplete → CellsNestWithin → CellsBuildWithin → ParsedIsReadable
 unfolding parsed
-parsed_is_readable sound complete nests ts tree = (λ h. readable sound ts tree (nat_le (most_open 0 ts) 500) refl h, is_parsed complete nests ts tree)
+parsed_is_readable sound complete nests builds ts tree = (λ h. readable sound ts tree (nat_le (most_open 0 ts) 500) refl h, is_parsed complete nests builds ts tree)

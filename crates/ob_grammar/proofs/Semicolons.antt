@@ -22,6 +22,7 @@ use Rattle.ob_grammar.specs.Semicolons.{BeginsExpression, may_follow}
 use Rattle.ob_grammar.specs.Taking.{Read}
 use Rattle.ob_grammar.specs.Reading.{item_of, reads, reads_statement}
 use Rattle.ob_grammar.proofs.Need.{need_item}
+use Rattle.ob_grammar.proofs.Tall.{tall_item}
 use Rattle.ob_grammar.proofs.Statements.{ItemsAreComplete, EndsWhereNothingGoesOn, EndsWhereverNothingGoesOn}
 use Rattle.ob_grammar.proofs.Slots.{Alike, Slot, here, behind, after, still}
 use Rattle.ob_grammar.proofs.Moved.{moved, moved_list, items_move}
@@ -33,18 +34,19 @@ rest_of : Read Stmt → List Token
 rest_of None = []
 rest_of (Some p) = p.1
 
-two_ends : (n : ℕ) (ts : List Token) (s u : Stmt) (t : Token) (more : List Token) → item_of (reads n) (reads_statement n) ts ≡ Some (s, t ∷ more)
-    → item_of (reads n) (reads_statement n) ts ≡ Some (u, []) → ⊥
+two_ends : (limit n : ℕ) (ts : List Token) (s u : Stmt) (t : Token) (more : List Token) → item_of limit (reads limit n) (reads_statement limit n) ts ≡ Some (s, t ∷ more)
+    → item_of limit (reads limit n) (reads_statement limit n) ts ≡ Some (u, []) → ⊥
 unfolding rest_of
-two_ends n ts s u t more g h = let e : t ∷ more ≡ [] = ap rest_of (sym g ∙ h) in cc
+two_ends limit n ts s u t more g h = let e : t ∷ more ≡ [] = ap rest_of (sym g ∙ h) in cc
 
 pub ends_where_nothing_goes_on : ItemsAreComplete → EndsWhereNothingGoesOn
 ends_where_nothing_goes_on complete front more t s d b =
     let x = items_move front more b.rest t s d in
     let y = subst (λ us. ReadsItem us b.tree []) (append_assoc front (t ∷ []) b.rest) b.reads in
+    let limit = max (tall_item x) (tall_item y) in
     let n = max (need_item x) (need_item y) in
-    two_ends n (front ++ t ∷ b.rest) s b.tree t b.rest (complete (front ++ t ∷ b.rest) s (t ∷ b.rest) x n (omega arith))
-    (complete (front ++ t ∷ b.rest) b.tree [] y n (omega arith))
+    two_ends limit n (front ++ t ∷ b.rest) s b.tree t b.rest (complete (front ++ t ∷ b.rest) s (t ∷ b.rest) x limit (omega arith) n (omega arith))
+    (complete (front ++ t ∷ b.rest) b.tree [] y limit (omega arith) n (omega arith))
 
 -- ---- what a rule lets go on
 

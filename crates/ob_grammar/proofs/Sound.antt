@@ -12,23 +12,23 @@ use Rattle.ob_grammar.proofs.SoundStatements.{sound_item, sound_statement}
 mutual
   unfolding reads reads_statement
 
-  sound : (n : ℕ) (r : Rule) (ts : List Token) → OnRead (reads n r ts) (As r ts)
-  sound zero r ts = tt
-  sound (suc n) r ts = sound_at (reads n) (reads_statement n) (sound n) (sound_items n) r ts
+  sound : (limit n : ℕ) (r : Rule) (ts : List Token) → OnRead (reads limit n r ts) (As r ts)
+  sound limit zero r ts = tt
+  sound limit (suc n) r ts = sound_at limit (reads limit n) (reads_statement limit n) (sound limit n) (sound_items limit n) r ts
 
-  sound_items : (n : ℕ) (ts : List Token) → OnRead (reads_statement n level.Item ts) (ReadsItem ts)
-  sound_items zero ts = tt
-  sound_items (suc n) ts = sound_item (reads n) (reads_statement n) (sound n) (sound_items n) (sound_statements n) ts
+  sound_items : (limit n : ℕ) (ts : List Token) → OnRead (reads_statement limit n level.Item ts) (ReadsItem ts)
+  sound_items limit zero ts = tt
+  sound_items limit (suc n) ts = sound_item limit (reads limit n) (reads_statement limit n) (sound limit n) (sound_items limit n) (sound_statements limit n) ts
 
-  sound_statements : (n : ℕ) (ts : List Token) → OnRead (reads_statement n level.Statement ts) (ReadsStmt ts)
-  sound_statements zero ts = tt
-  sound_statements (suc n) ts = sound_statement (reads n) (reads_statement n) (sound n) (sound_items n) (sound_statements n) ts
+  sound_statements : (limit n : ℕ) (ts : List Token) → OnRead (reads_statement limit n level.Statement ts) (ReadsStmt ts)
+  sound_statements limit zero ts = tt
+  sound_statements limit (suc n) ts = sound_statement limit (reads limit n) (reads_statement limit n) (sound limit n) (sound_items limit n) (sound_statements limit n) ts
 
 pub expressions_are_sound : ExpressionsAreSound
-expressions_are_sound n r ts = sound n r ts
+expressions_are_sound limit n r ts = sound limit n r ts
 
 pub items_are_sound : ItemsAreSound
-items_are_sound n ts = sound_items n ts
+items_are_sound limit n ts = sound_items limit n ts
 
 pub statements_are_sound : StatementsAreSound
-statements_are_sound n ts = sound_statements n ts
+statements_are_sound limit n ts = sound_statements limit n ts

@@ -37,6 +37,7 @@ use Rattle.ob_grammar.specs.Taking.{Read, Parser, piece, opens_brace, closes_bra
 use Rattle.ob_grammar.specs.Reading.{at, block_of, reads, reads_statement}
 use Rattle.ob_grammar.specs.ReadingCells.{form_by, form_of, spec_by, spec_at, spec_of, specs_by, after_spec, specs_at, specs_from, specs_of, with_by, import_of, is_end, all_of, named_cell, function_by, value_cell, body_by, body_of, bare_by, bare_of, cell_head, headed, cell_by, cell_of}
 use Rattle.ob_grammar.proofs.Need.{need}
+use Rattle.ob_grammar.proofs.Tall.{tall}
 use Rattle.ob_grammar.proofs.Statements.{OnRead, ExpressionsAreComplete, CellsAreSound}
 use Rattle.ob_grammar.proofs.SoundTokens.{after, on_mapped, on_weaker, only_name, only_text, only_opens_brace, only_closes_brace, only_is_comma, only_is_semicolon, only_is_assign, only_is_function, only_is_with, only_is_as, only_is_from, by_take, on_taken, after_taken, after_one, behind_one, on_before, no_brace}
 use Rattle.ob_grammar.proofs.SoundBlocks.{As, sound_block}
@@ -228,11 +229,14 @@ one_tree complete {ts} {a} {b} {f} {h} {rest} {others} d e u v = inside (ap tree
     most : ℕ
     most = max (need d) (need u)
 
-    one : at (reads most) (reads_statement most) whole ts ≡ Some (piece a f, rest)
-    one = complete whole ts a f rest d (stops_at_end f rest e) most (omega arith)
+    high : ℕ
+    high = max (tall d) (tall u)
 
-    other : at (reads most) (reads_statement most) whole ts ≡ Some (piece b h, others)
-    other = complete whole ts b h others u (stops_at_end h others v) most (omega arith)
+    one : at high (reads high most) (reads_statement high most) whole ts ≡ Some (piece a f, rest)
+    one = complete whole ts a f rest d (stops_at_end f rest e) high (omega arith) most (omega arith)
+
+    other : at high (reads high most) (reads_statement high most) whole ts ≡ Some (piece b h, others)
+    other = complete whole ts b h others u (stops_at_end h others v) high (omega arith) most (omega arith)
 
     inside : Some a ≡ Some b → a ≡ b
     inside q = cc
@@ -245,15 +249,15 @@ is_that_function complete d e g text = ap out-Expr (one_tree complete d e (as_wh
 
 -- ---- bodies and bare cells
 
-module _ (complete : ExpressionsAreComplete) (n : ℕ) where
-  sound_block_of : (ts : List Token) → OnRead (block_of (reads n) (reads_statement n) ts) (ReadsBlock ts)
-  sound_block_of ts = sound_block (reads n) (reads_statement n) (λ r ts. expressions_are_sound n r ts) (λ ts. items_are_sound n ts) ts
+module _ (complete : ExpressionsAreComplete) (limit n : ℕ) where
+  sound_block_of : (ts : List Token) → OnRead (block_of limit (reads limit n) (reads_statement limit n) ts) (ReadsBlock ts)
+  sound_block_of ts = sound_block limit (reads limit n) (reads_statement limit n) (λ r ts. expressions_are_sound limit n r ts) (λ ts. items_are_sound limit n ts) ts
 
-  sound_body_by : (ts : List Token) (b : Bool) → next_is opens_brace ts ≡ b → OnRead (body_by n b ts) (ReadsBody ts)
-  sound_body_by ts true h = on_mapped (ReadsBlock ts) (ReadsBody ts) _ (block_of (reads n) (reads_statement n) ts) (sound_block_of ts) (λ items rest d. cells.block ts rest items d)
-  sound_body_by ts false h = on_mapped (As whole ts) (ReadsBody ts) _ (reads n whole ts) (expressions_are_sound n whole ts) (λ p rest d. cells.value ts rest p.tree p.form (no_brace ts h) d)
+  sound_body_by : (ts : List Token) (b : Bool) → next_is opens_brace ts ≡ b → OnRead (body_by limit n b ts) (ReadsBody ts)
+  sound_body_by ts true h = on_mapped (ReadsBlock ts) (ReadsBody ts) _ (block_of limit (reads limit n) (reads_statement limit n) ts) (sound_block_of ts) (λ items rest d. cells.block ts rest items d)
+  sound_body_by ts false h = on_mapped (As whole ts) (ReadsBody ts) _ (reads limit n whole ts) (expressions_are_sound limit n whole ts) (λ p rest d. cells.value ts rest p.tree p.form (no_brace ts h) d)
 
-  sound_body : (ts : List Token) → OnRead (body_of n ts) (ReadsBody ts)
+  sound_body : (ts : List Token) → OnRead (body_of limit n ts) (ReadsBody ts)
   unfolding body_of
   sound_body ts = sound_body_by ts (next_is opens_brace ts) refl
 
@@ -282,49 +286,49 @@ module _ (complete : ExpressionsAreComplete) (n : ℕ) where
   abbrev AsBlockCell : List Token → CellTree → List Token → Type 0
   AsBlockCell ts tree rest = AtEnd rest → Derives ts tree
 
-  sound_bare_by : (ts : List Token) (b : Bool) → next_is opens_brace ts ≡ b → OnRead (bare_by n b ts) (AsBlockCell ts)
-  sound_bare_by ts true h = on_mapped (ReadsBlock ts) (AsBlockCell ts) _ (block_of (reads n) (reads_statement n) ts) (sound_block_of ts)
+  sound_bare_by : (ts : List Token) (b : Bool) → next_is opens_brace ts ≡ b → OnRead (bare_by limit n b ts) (AsBlockCell ts)
+  sound_bare_by ts true h = on_mapped (ReadsBlock ts) (AsBlockCell ts) _ (block_of limit (reads limit n) (reads_statement limit n) ts) (sound_block_of ts)
       (λ items rest d e. cells.bare ts rest (of_block items) (cells.block ts rest items d) e (λ g text. both_ways _ (begins_with_no_brace text.reads) h))
-  sound_bare_by ts false h = on_mapped (As whole ts) (AsBlockCell ts) _ (reads n whole ts) (expressions_are_sound n whole ts)
+  sound_bare_by ts false h = on_mapped (As whole ts) (AsBlockCell ts) _ (reads limit n whole ts) (expressions_are_sound limit n whole ts)
       (λ p rest d e. sound_value_cell ts p rest d e h (next_is is_function ts) refl)
 
-  sound_bare : (ts : List Token) → OnCell (bare_of n ts) (Derives ts)
+  sound_bare : (ts : List Token) → OnCell (bare_of limit n ts) (Derives ts)
   unfolding bare_of
-  sound_bare ts = sound_all (AsBlockCell ts) (Derives ts) (bare_by n (next_is opens_brace ts) ts) (sound_bare_by ts (next_is opens_brace ts) refl) (λ tree rest d e. d e)
+  sound_bare ts = sound_all (AsBlockCell ts) (Derives ts) (bare_by limit n (next_is opens_brace ts) ts) (sound_bare_by ts (next_is opens_brace ts) refl) (λ tree rest d e. d e)
 
   -- ---- cells
 
   abbrev AsHeaded : (List ℕ → Function → CellTree) → List Token → List ℕ → List Token → Type 0
   AsHeaded make ts x body = (f : Function) (rest : List Token) → ReadsBody body f rest → AtEnd rest → Derives ts (make x f)
 
-  sound_headed : (make : List ℕ → Function → CellTree) (ts : List Token) (o : Read (List ℕ)) → OnRead o (AsHeaded make ts) → OnCell (headed n make o ts) (Derives ts)
+  sound_headed : (make : List ℕ → Function → CellTree) (ts : List Token) (o : Read (List ℕ)) → OnRead o (AsHeaded make ts) → OnCell (headed limit n make o ts) (Derives ts)
   sound_headed make ts None d = sound_bare ts
   sound_headed make ts (Some p) d = sound_all (AsBlockCell ts) (Derives ts) _
-      (on_mapped (ReadsBody p.1) (AsBlockCell ts) (make p.0) (body_of n p.1) (sound_body p.1) (λ f rest b e. d f rest b e)) (λ tree rest q e. q e)
+      (on_mapped (ReadsBody p.1) (AsBlockCell ts) (make p.0) (body_of limit n p.1) (sound_body p.1) (λ f rest b e. d f rest b e)) (λ tree rest q e. q e)
 
   -- a name and `=`
   sound_head : (make : List ℕ → Function → CellTree) (front : List Token → List Token) (ts : List Token)
-      → ((m q : Token) (body : List Token) (x : List ℕ) → IsName x m → IsMark mark.Assign q → AsHeaded make (front (m ∷ q ∷ body)) x body) → OnRead (cell_head n ts) (AsHeaded make (front ts))
+      → ((m q : Token) (body : List Token) (x : List ℕ) → IsName x m → IsMark mark.Assign q → AsHeaded make (front (m ∷ q ∷ body)) x body) → OnRead (cell_head limit n ts) (AsHeaded make (front ts))
   unfolding cell_head
   sound_head make front ts g = after_one name_of (λ us. AsHeaded make (front us)) _ (λ m mid x hx.
       on_before is_assign _ only_is_assign (λ us. AsHeaded make (front (m ∷ us))) x (λ q body hq. g m q body x (only_name m.kind x hx) hq) mid) ts
 
-  sound_by : (t : Token) (ts : List Token) (x : TokenKind) → t.kind ≡ x → OnCell (cell_by n x t ts) (Derives (t ∷ ts))
+  sound_by : (t : Token) (ts : List Token) (x : TokenKind) → t.kind ≡ x → OnCell (cell_by limit n x t ts) (Derives (t ∷ ts))
   unfolding cell_by
   sound_by t ts (kind.Reserved word.Import) h = sound_all (AsBlockCell (t ∷ ts)) (Derives (t ∷ ts)) _
       (on_mapped (ReadsImport (t ∷ ts)) (AsBlockCell (t ∷ ts)) cell.Import (import_of ts) (sound_import t ts h) (λ i rest d e. cells.imported (t ∷ ts) rest i d e)) (λ tree rest q e. q e)
-  sound_by t ts (kind.Reserved word.Viewof) h = sound_headed cell.View (t ∷ ts) (cell_head n ts)
+  sound_by t ts (kind.Reserved word.Viewof) h = sound_headed cell.View (t ∷ ts) (cell_head limit n ts)
       (sound_head cell.View (λ us. t ∷ us) ts (λ m q body x hm hq f rest d e. cells.view t m q body rest x f h hm hq d e))
-  sound_by t ts (kind.Reserved word.Mutable) h = sound_headed cell.Mutable (t ∷ ts) (cell_head n ts)
+  sound_by t ts (kind.Reserved word.Mutable) h = sound_headed cell.Mutable (t ∷ ts) (cell_head limit n ts)
       (sound_head cell.Mutable (λ us. t ∷ us) ts (λ m q body x hm hq f rest d e. cells.mutable_cell t m q body rest x f h hm hq d e))
-  sound_by t ts (kind.Name x) h = sound_headed cell.Named (t ∷ ts) (cell_head n (t ∷ ts))
+  sound_by t ts (kind.Name x) h = sound_headed cell.Named (t ∷ ts) (cell_head limit n (t ∷ ts))
       (sound_head cell.Named (λ us. us) (t ∷ ts) (λ m q body y hm hq f rest d e. cells.named m q body rest y f hm hq d e))
   sound_by t ts _ h = sound_bare (t ∷ ts)
 
-  sound_cell : (ts : List Token) → OnCell (cell_of n ts) (Derives ts)
+  sound_cell : (ts : List Token) → OnCell (cell_of limit n ts) (Derives ts)
   unfolding cell_of
   sound_cell [] = cells.nothing
   sound_cell (t ∷ ts) = sound_by t ts t.kind refl
 
 pub cells_are_sound : ExpressionsAreComplete → CellsAreSound
-cells_are_sound complete n ts tree h = subst (λ o. OnCell o (Derives ts)) h (sound_cell complete n ts)
+cells_are_sound complete limit n ts tree h = subst (λ o. OnCell o (Derives ts)) h (sound_cell complete limit n ts)

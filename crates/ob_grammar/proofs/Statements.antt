@@ -21,6 +21,7 @@ use Rattle.ob_grammar.specs.Taking.{Read, piece, end_of}
 use Rattle.ob_grammar.specs.Reading.{at, item_of, statement_of, decls_of, reads, reads_statement}
 use Rattle.ob_grammar.specs.ReadingCells.{cell_of, parsed}
 use Rattle.ob_grammar.proofs.Need.{need, need_item, need_stmt, need_block, need_decls, need_function}
+use Rattle.ob_grammar.proofs.Tall.{tall, tall_item, tall_stmt, tall_block, tall_decls, tall_function}
 
 abbrev pub OnRead : {A : Type 0} → Read A → (A → List Token → Type 0) → Type 0
 OnRead None P = Unit {0}
@@ -29,18 +30,18 @@ OnRead (Some p) P = P p.0 p.1
 -- ---- sound: what the descent gives is in the grammar
 
 abbrev pub ExpressionsAreSound : Type 0
-ExpressionsAreSound = (n : ℕ) (r : Rule) (ts : List Token) → OnRead (reads n r ts) (λ p rest. Reads r ts p.tree p.form rest)
+ExpressionsAreSound = (limit n : ℕ) (r : Rule) (ts : List Token) → OnRead (reads limit n r ts) (λ p rest. Reads r ts p.tree p.form rest)
 
 abbrev pub ItemsAreSound : Type 0
-ItemsAreSound = (n : ℕ) (ts : List Token) → OnRead (reads_statement n level.Item ts) (ReadsItem ts)
+ItemsAreSound = (limit n : ℕ) (ts : List Token) → OnRead (reads_statement limit n level.Item ts) (ReadsItem ts)
 
 abbrev pub StatementsAreSound : Type 0
-StatementsAreSound = (n : ℕ) (ts : List Token) → OnRead (reads_statement n level.Statement ts) (ReadsStmt ts)
+StatementsAreSound = (limit n : ℕ) (ts : List Token) → OnRead (reads_statement limit n level.Statement ts) (ReadsStmt ts)
 
 abbrev pub CellsAreSound : Type 0
-CellsAreSound = (n : ℕ) (ts : List Token) (tree : CellTree) → cell_of n ts ≡ Some tree → Derives ts tree
+CellsAreSound = (limit n : ℕ) (ts : List Token) (tree : CellTree) → cell_of limit n ts ≡ Some tree → Derives ts tree
 
--- ---- complete: what is in the grammar, the descent gives, where nothing goes on and the number is large enough
+-- ---- complete: what is in the grammar, the descent gives, where nothing goes on, and the limit and the number are large enough
 
 -- tokens of smaller ranks go on with a piece of the rule; with a Cond, those that go on with the Expr behind its `:`
 abbrev pub reach : Rule → ℕ
@@ -56,19 +57,19 @@ reach whole = 17
 
 abbrev pub ExpressionsAreComplete : Type 0
 ExpressionsAreComplete = (r : Rule) (ts : List Token) (a : Expr) (f : Form) (rest : List Token) (d : Reads r ts a f rest) → Stops f (reach r) rest
-    → (m : ℕ) → need d ≤ m → at (reads m) (reads_statement m) r ts ≡ Some (piece a f, rest)
+    → (limit : ℕ) → tall d ≤ limit → (m : ℕ) → need d ≤ m → at limit (reads limit m) (reads_statement limit m) r ts ≡ Some (piece a f, rest)
 
 abbrev pub ItemsAreComplete : Type 0
-ItemsAreComplete = (ts : List Token) (s : Stmt) (rest : List Token) (d : ReadsItem ts s rest) → (m : ℕ) → need_item d ≤ m
-    → item_of (reads m) (reads_statement m) ts ≡ Some (s, rest)
+ItemsAreComplete = (ts : List Token) (s : Stmt) (rest : List Token) (d : ReadsItem ts s rest) → (limit : ℕ) → tall_item d ≤ limit → (m : ℕ) → need_item d ≤ m
+    → item_of limit (reads limit m) (reads_statement limit m) ts ≡ Some (s, rest)
 
 abbrev pub StatementsAreComplete : Type 0
-StatementsAreComplete = (ts : List Token) (s : Stmt) (rest : List Token) (d : ReadsStmt ts s rest) → (m : ℕ) → need_stmt d ≤ m
-    → statement_of (reads m) (reads_statement m) ts ≡ Some (s, rest)
+StatementsAreComplete = (ts : List Token) (s : Stmt) (rest : List Token) (d : ReadsStmt ts s rest) → (limit : ℕ) → tall_stmt d ≤ limit → (m : ℕ) → need_stmt d ≤ m
+    → statement_of limit (reads limit m) (reads_statement limit m) ts ≡ Some (s, rest)
 
 abbrev pub DeclarationsAreComplete : Type 0
-DeclarationsAreComplete = (ts : List Token) (ds : List Decl) (f : Form) (rest : List Token) (d : ReadsDecls ts ds f rest) → Stops f 18 rest → (m : ℕ)
-    → need_decls d ≤ m → decls_of (reads m) (reads_statement m) ts ≡ Some (record { decls = ds; form = f }, rest)
+DeclarationsAreComplete = (ts : List Token) (ds : List Decl) (f : Form) (rest : List Token) (d : ReadsDecls ts ds f rest) → Stops f 18 rest → (limit : ℕ)
+    → tall_decls d ≤ limit → (m : ℕ) → need_decls d ≤ m → decls_of limit (reads limit m) (reads_statement limit m) ts ≡ Some (record { decls = ds; form = f }, rest)
 
 abbrev pub EndsAreComplete : Type 0
 EndsAreComplete = (f : Form) (ts rest : List Token) → Ends f ts rest ↔ (end_of f ts ≡ Some rest)
@@ -87,18 +88,35 @@ need_cell (cells.named n q ts rest x g hn hq d e) = need_body d
 need_cell (cells.view t n q ts rest x g ht hn hq d e) = need_body d
 need_cell (cells.mutable_cell t n q ts rest x g ht hn hq d e) = need_body d
 
+abbrev pub tall_body : {ts : List Token} {g : Function} {rest : List Token} → ReadsBody ts g rest → ℕ
+tall_body (cells.block ts rest items d) = tall_block d
+tall_body (cells.value ts rest a f h d) = tall d
+
+abbrev pub tall_cell : {ts : List Token} {tree : CellTree} → Derives ts tree → ℕ
+tall_cell cells.nothing = 0
+tall_cell (cells.imported ts rest i d e) = 0
+tall_cell (cells.function_cell ts g d) = tall_function d.reads
+tall_cell (cells.bare ts rest g d e other) = tall_body d
+tall_cell (cells.named n q ts rest x g hn hq d e) = tall_body d
+tall_cell (cells.view t n q ts rest x g ht hn hq d e) = tall_body d
+tall_cell (cells.mutable_cell t n q ts rest x g ht hn hq d e) = tall_body d
+
 -- an expression that assigns to a name reads as a bare cell too, but has an early error
 abbrev pub CellsAreComplete : Type 0
-CellsAreComplete = (ts : List Token) (tree : CellTree) (d : Derives ts tree) → is_free_of_errors tree ≡ true → (m : ℕ) → need_cell d ≤ m
-    → cell_of m ts ≡ Some tree
+CellsAreComplete = (ts : List Token) (tree : CellTree) (d : Derives ts tree) → is_free_of_errors tree ≡ true → (limit : ℕ)
+    → tall_cell d ≤ limit → (m : ℕ) → need_cell d ≤ m → cell_of limit m ts ≡ Some tree
 
--- ---- the limits bound the nesting: with them 701 is always enough
+-- ---- the depth of the tree and the brackets bound the nesting, and the depth alone what the loops build: with 200 and 500, 701 and 200 are
+-- always enough
 
 abbrev pub ExpressionsNestWithin : Type 0
 ExpressionsNestWithin = (ts : List Token) (a : Expr) (f : Form) (d : Reads whole ts a f []) → need d ≤ expr_depth a + most_open 0 ts
 
 abbrev pub CellsNestWithin : Type 0
 CellsNestWithin = (ts : List Token) (tree : CellTree) (d : Derives ts tree) → need_cell d ≤ depth_of tree + most_open 0 ts
+
+abbrev pub CellsBuildWithin : Type 0
+CellsBuildWithin = (ts : List Token) (tree : CellTree) (d : Derives ts tree) → tall_cell d ≤ depth_of tree
 
 -- ---- the laws that follow, public in the end
 

@@ -11,3 +11,4 @@ pub mod Semicolons
 pub mod Taking
 pub mod Reading
 pub mod ReadingCells
+pub mod ReadingTexts

@@ -1,6 +1,6 @@
 -- The descent on expressions and statements, as functions on lists of tokens. `inner` and `nested` read a piece one nesting deeper; a number
--- bounds the turns of a loop.
-use Rattle.std.specs.Prelude.{ℕ, zero, suc, ◌+◌, Bool, true, false, ◌==◌, List, [], ◌∷◌, length, Option, Some, None, option_and_then, if◌then◌else◌}
+-- bounds the turns of a loop. `limit` bounds the depth of a tree that the turns of a loop build, since nothing else does.
+use Rattle.std.specs.Prelude.{ℕ, zero, suc, ◌+◌, Bool, true, false, ◌==◌, nat_le, List, [], ◌∷◌, length, Option, Some, None, option_and_then, if◌then◌else◌}
 use Rattle.ob_base.specs.declared.operators.BinaryOp.TheVariants.{Pow}
 use Rattle.ob_base.specs.declared.operators.UnaryOp.{UnaryOp}
 use Rattle.ob_lex.specs.declared.punctuator.Punctuator.TheVariants as mark
@@ -25,6 +25,7 @@ use Rattle.ob_tree_types.specs.declared.tree.Stmt.TheVariants as stmt
 use Rattle.ob_tree_types.specs.declared.tree.ForHead.{ForHead}
 use Rattle.ob_tree_types.specs.declared.tree.ForHead.TheVariants as head
 use Rattle.ob_tree_types.specs.declared.tree.CatchPart.{CatchPart}
+use Rattle.ob_tree.specs.Depth.{expr_depth}
 use Rattle.ob_grammar.specs.Marks.{word_of, key_of, literal_of, rank, joined, infix_of, unary_of, update_of, assign_of, change_of, step_of, declares_constant}
 use Rattle.ob_grammar.specs.declared.form.Infix.{Infix}
 use Rattle.ob_grammar.specs.declared.form.Form.{Form}
@@ -47,7 +48,11 @@ declared x v f = record { decl = record { name = x; value = v }; form = f }
 abbrev pub also_declared : Decl → Several → Several
 also_declared d s = record { decls = d ∷ s.decls; form = s.form }
 
-module _ (inner : Rule → Parser Piece) (nested : Level → Parser Stmt) where
+-- goes on with a piece whose tree is no deeper than the limit
+unfoldable pub kept : ℕ → Piece → (Piece → Parser Piece) → Parser Piece
+kept limit p go ts = if nat_le (expr_depth p.tree) limit then go p ts else None
+
+module _ (limit : ℕ) (inner : Rule → Parser Piece) (nested : Level → Parser Stmt) where
   -- ---- lists
 
   abbrev pub list_by : Bool → Bool → Expr → Parser (List Expr) → Parser (List Expr)
@@ -150,9 +155,9 @@ module _ (inner : Rule → Parser Piece) (nested : Level → Parser Stmt) where
   primary_of (t ∷ ts) = primary_at (literal_of t.kind) t.kind ts
 
   unfoldable pub step_by : TokenKind → Piece → Token → List Token → (Piece → Parser Piece) → Read Piece
-  step_by (kind.Punctuator mark.Dot) p t ts go = one word_of ts >>= λ x. go (piece (node.Member p.tree x) Target)
-  step_by (kind.Punctuator mark.OpenBracket) p t ts go = inner whole ts >>= λ k mid. if_taken (take closes_bracket mid) (go (piece (node.Index p.tree k.tree) Target))
-  step_by (kind.Punctuator mark.OpenParenthesis) p t ts go = list_of closes_parenthesis ts >>= λ args. go (piece (node.Call p.tree args) Other)
+  step_by (kind.Punctuator mark.Dot) p t ts go = one word_of ts >>= λ x. kept limit (piece (node.Member p.tree x) Target) go
+  step_by (kind.Punctuator mark.OpenBracket) p t ts go = inner whole ts >>= λ k mid. if_taken (take closes_bracket mid) (kept limit (piece (node.Index p.tree k.tree) Target) go)
+  step_by (kind.Punctuator mark.OpenParenthesis) p t ts go = list_of closes_parenthesis ts >>= λ args. kept limit (piece (node.Call p.tree args) Other) go
   step_by _ p t ts go = Some (p, t ∷ ts)
 
   unfoldable pub steps_from : ℕ → Piece → Parser Piece
@@ -210,7 +215,7 @@ module _ (inner : Rule → Parser Piece) (nested : Level → Parser Stmt) where
   power_of (t ∷ ts) = power_at (unary_of t.kind) t ts
 
   abbrev pub more_by : Option Infix → Piece → Token → List Token → Parser Piece → (Piece → Parser Piece) → Read Piece
-  more_by (Some op) p t ts next go = next ts >>= λ q. go (piece (joined op p.tree q.tree) (edge q.form))
+  more_by (Some op) p t ts next go = next ts >>= λ q. kept limit (piece (joined op p.tree q.tree) (edge q.form)) go
   more_by None p t ts next go = Some (p, t ∷ ts)
 
   -- the operator of that rank
@@ -462,10 +467,10 @@ module _ (inner : Rule → Parser Piece) (nested : Level → Parser Stmt) where
 
 -- with pieces nested no deeper than the number
 unfoldable mutual
-  pub reads : ℕ → Rule → Parser Piece
-  reads zero rule ts = None
-  reads (suc n) rule ts = at (reads n) (reads_statement n) rule ts
+  pub reads : ℕ → ℕ → Rule → Parser Piece
+  reads limit zero rule ts = None
+  reads limit (suc n) rule ts = at limit (reads limit n) (reads_statement limit n) rule ts
 
-  pub reads_statement : ℕ → Level → Parser Stmt
-  reads_statement zero level ts = None
-  reads_statement (suc n) level ts = at_level (reads n) (reads_statement n) level ts
+  pub reads_statement : ℕ → ℕ → Level → Parser Stmt
+  reads_statement limit zero level ts = None
+  reads_statement limit (suc n) level ts = at_level limit (reads limit n) (reads_statement limit n) level ts

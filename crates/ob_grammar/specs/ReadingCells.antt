@@ -104,18 +104,18 @@ abbrev pub value_cell : Bool → Expr → CellTree
 value_cell true a = function_by (out-Expr a) a
 value_cell false a = cell.Bare (of_value a)
 
--- with pieces nested no deeper than the number
-module _ (n : ℕ) where
+-- with trees of loops no deeper than the limit, and pieces nested no deeper than the number
+module _ (limit n : ℕ) where
   abbrev pub body_by : Bool → Parser Function
-  body_by true ts = mapped of_block (block_of (reads n) (reads_statement n) ts)
-  body_by false ts = mapped (λ p. of_value p.tree) (reads n whole ts)
+  body_by true ts = mapped of_block (block_of limit (reads limit n) (reads_statement limit n) ts)
+  body_by false ts = mapped (λ p. of_value p.tree) (reads limit n whole ts)
 
   unfoldable pub body_of : Parser Function
   body_of ts = body_by (next_is opens_brace ts) ts
 
   abbrev pub bare_by : Bool → Parser CellTree
-  bare_by true ts = mapped (λ items. cell.Bare (of_block items)) (block_of (reads n) (reads_statement n) ts)
-  bare_by false ts = mapped (λ p. value_cell (next_is is_function ts) p.tree) (reads n whole ts)
+  bare_by true ts = mapped (λ items. cell.Bare (of_block items)) (block_of limit (reads limit n) (reads_statement limit n) ts)
+  bare_by false ts = mapped (λ p. value_cell (next_is is_function ts) p.tree) (reads limit n whole ts)
 
   unfoldable pub bare_of : List Token → Option CellTree
   bare_of ts = all_of (bare_by (next_is opens_brace ts) ts)
@@ -141,12 +141,16 @@ module _ (n : ℕ) where
 
 -- ---- within the limits
 
+-- the depth that a tree may have
+abbrev pub depth_limit : ℕ
+depth_limit = 200
+
 abbrev pub if_readable : Option CellTree → Option CellTree
 if_readable None = None
-if_readable (Some tree) = if nat_le (depth_of tree) 200 && is_free_of_errors tree then Some tree else None
+if_readable (Some tree) = if nat_le (depth_of tree) depth_limit && is_free_of_errors tree then Some tree else None
 
 abbrev pub parsed_by : Bool → List Token → Option CellTree
-parsed_by true tokens = if_readable (cell_of 701 tokens)
+parsed_by true tokens = if_readable (cell_of depth_limit 701 tokens)
 parsed_by false tokens = None
 
 -- the cell that the tokens read as

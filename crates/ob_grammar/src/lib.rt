@@ -2,7 +2,7 @@
 //! text unreadable, and the descent that the parser follows.
 #![tactic(auto)]
 
-ghost use Rattle.std.specs.Prelude.{◌≡◌, ◌↔◌, true, List, [], ◌∷◌, ◌++◌, Some};
+ghost use Rattle.std.specs.Prelude.{ℕ, ◌≡◌, ◌↔◌, true, List, [], ◌∷◌, ◌++◌, Some};
 ghost use Rattle.ob_lex.specs.declared.token.Token.{Token};
 ghost use Rattle.ob_tree_types.specs.declared.cell.CellTree.{CellTree};
 ghost use Rattle.ob_tree_types.specs.declared.tree.Expr.{Expr};
@@ -12,6 +12,7 @@ ghost use Rattle.ob_grammar.specs.Forms.{Ends};
 ghost use Rattle.ob_grammar.specs.Grammar.{Reads, ReadsItem, whole};
 ghost use Rattle.ob_grammar.specs.Readable as cells;
 ghost use Rattle.ob_grammar.specs.ReadingCells.{parsed};
+ghost use Rattle.ob_grammar.specs.ReadingTexts.{text_cell};
 ghost use Rattle.ob_grammar.specs.Semicolons.{BeginsExpression, BeginsItem, may_follow};
 
 mod form;
@@ -33,6 +34,17 @@ pub fn one_cell()
 /// The descent reads tokens as a cell exactly where they read as that cell.
 pub fn reading_is_exact()
     ensures { (tokens : List Token) (tree : CellTree) → (parsed tokens ≡ Some tree) ↔ cells.Reads tokens tree }
+{}
+
+/// A text reads as at most one cell.
+pub fn one_cell_of_a_text()
+    ensures { (text : List ℕ) (tree other : CellTree) → cells.TextReads text tree → cells.TextReads text other → tree ≡ other }
+{}
+
+/// Cutting a text into tokens and reading them gives a cell exactly where the text reads as that
+/// cell.
+pub fn reading_of_texts_is_exact()
+    ensures { (text : List ℕ) (tree : CellTree) → (text_cell text ≡ Some tree) ↔ cells.TextReads text tree }
 {}
 
 /// A statement or declaration reads alike before all that begins with the same token.
