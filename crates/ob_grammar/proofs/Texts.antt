@@ -41,3 +41,6 @@ text_is_exact text tree = (text_reads text tree, cell_is text tree)
 
 pub at_most_one_cell_of : (text : List ℕ) (tree other : CellTree) → TextReads text tree → TextReads text other → tree ≡ other
 at_most_one_cell_of text tree other r s = let e : Some tree ≡ Some other = sym (cell_is text tree r) ∙ cell_is text other s in cc
+
+pub no_cell_reads : (text : List ℕ) → text_cell text ≡ None → (tree : CellTree) → TextReads text tree → ⊥
+no_cell_reads text h tree r = let e : None ≡ Some tree = sym h ∙ cell_is text tree r in cc
