@@ -9,7 +9,7 @@ use Rattle.std.proofs.lemmas.Fmt.{IsAscii-decimal}
 use Rattle.std.proofs.lemmas.Str.Ascii.{All-from_ascii}
 use Rattle.std.proofs.lemmas.List.Sums.{AllPass-from_list_all}
 use Rattle.ob_items.specs.IndexText.{index_in, read}
-use Rattle.ob_inspect.specs.Inspect.{is_plain_key, begins_ascii_name, continues_ascii_name}
+use Rattle.ob_values.specs.Inspect.{is_plain_key, begins_ascii_name, continues_ascii_name}
 
 small : (u : ℕ) → continues_ascii_name u ≡ true → u < 128
 small u h = grind (arith, nat_tests)

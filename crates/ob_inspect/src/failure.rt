@@ -1,6 +1,6 @@
 //! The texts and messages of failures.
 ghost use Rattle.std.specs.Prelude.{◌≡◌, ◌++◌, string_bytes, IfOk, OnOk};
-ghost use Rattle.ob_inspect.specs.Inspect as spec;
+ghost use Rattle.ob_values.specs.Inspect as spec;
 
 use crate::item::{error_name, error_parts};
 use crate::print::inspect;

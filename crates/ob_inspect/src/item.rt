@@ -1,31 +1,24 @@
 //! Items that are not opened, and the parts of errors.
-ghost use Rattle.std.specs.Prelude.{◌≡◌, ◌++◌, string_bytes, IfOk, OnOk};
+ghost use Rattle.std.specs.Prelude.{◌≡◌, ◌++◌, string_bytes, OnOk};
 ghost use Rattle.std.specs.Option.{option_map};
-ghost use Rattle.ob_items.specs.Properties.{values_of};
-ghost use Rattle.ob_inspect.specs.Inspect as spec;
+ghost use Rattle.ob_values.specs.Inspect as spec;
 
 use crate::quoted::put_quoted;
 use ob_base::NoMemory;
 use ob_items::Properties;
 use ob_values::{Body, ErrorKind, Ref, Regions, Value};
-use std::alloc::Global;
 
 /// Adds an item that is not opened.
 ///
 /// # Errors
 /// `NoMemory` where an allocation is refused.
-pub(crate) fn put_item(
-    alloc: Global,
-    out: &mut String,
-    regions: &Regions,
-    body: &Body,
-) -> Result<(), NoMemory>
+pub(crate) fn put_item(out: &mut String, regions: &Regions, body: &Body) -> Result<(), NoMemory>
     ensures { OnOk result (string_bytes out.new ≡ string_bytes out.old ++ spec.item_text regions.now body.now) }
 {
     match body {
         Body::Text(units) => put_quoted(out, units.as_slice())?,
         Body::Array(values) => out.push_str(closed_array(values.as_slice()))?,
-        Body::Object(properties) => out.push_str(closed_object(alloc, properties)?)?,
+        Body::Object(properties) => out.push_str(closed_object(properties))?,
         Body::Closure(_) => out.push_str("function")?,
         Body::Generator(_) => out.push_str("generator")?,
         Body::Error(kind, message) => put_error(out, regions, *kind, *message)?,
@@ -44,14 +37,10 @@ fn closed_array(values: &[Value]) -> &'static str
     }
 }
 
-fn closed_object(alloc: Global, properties: &Properties) -> Result<&'static str, NoMemory>
-    ensures { IfOk result (λ text. text.now ≡ spec.closed_object (values_of properties.now)) }
+fn closed_object(properties: &Properties) -> &'static str
+    ensures { result.now ≡ spec.closed_object properties.now }
 {
-    let values = properties.values(alloc)?;
-    match values.as_slice() {
-        [] => Ok("{}"),
-        [_, ..] => Ok("{...}"),
-    }
+    if properties.is_empty() { "{}" } else { "{...}" }
 }
 
 fn put_error(

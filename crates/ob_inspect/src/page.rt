@@ -1,6 +1,6 @@
 ghost use Rattle.std.specs.Prelude.{◌≡◌, [], ◌==◌, string_bytes, codes, OnOk, if◌then◌else◌};
-ghost use Rattle.ob_inspect.specs.Inspect as spec;
-ghost use Rattle.ob_inspect.specs.Inspect.{write, take_one};
+ghost use Rattle.ob_values.specs.Inspect as spec;
+ghost use Rattle.ob_values.specs.Inspect.{write, take_one};
 
 use crate::item::put_item;
 use crate::key::put_key;
@@ -18,7 +18,7 @@ pub(crate) struct Page {
 
 impl Model for Page {
     ghost use Rattle.std.specs.Prelude.{string_bytes};
-    ghost use Rattle.ob_inspect.specs.Inspect.{Page as ThePage};
+    ghost use Rattle.ob_values.specs.Inspect.{Page as ThePage};
 
     ghost Value = { ThePage };
 
@@ -74,15 +74,17 @@ impl Page {
     ///
     /// # Errors
     /// `NoMemory` where an allocation is refused.
-    pub fn write_item(
-        &mut self,
-        alloc: Global,
-        regions: &Regions,
-        body: &Body,
-    ) -> Result<(), NoMemory>
+    pub fn write_item(&mut self, regions: &Regions, body: &Body) -> Result<(), NoMemory>
         ensures { OnOk result (self.new ≡ write (spec.item_text regions.now body.now) self.old) }
     {
-        put_item(alloc, &mut self.text, regions, body)
+        put_item(&mut self.text, regions, body)
+    }
+
+    /// How many values may still be printed.
+    pub fn left(&self) -> u32
+        ensures { result ≡ self.now.left }
+    {
+        self.left
     }
 
     /// Whether no value may be printed any more.

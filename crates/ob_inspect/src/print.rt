@@ -1,13 +1,14 @@
 //! The text of a value.
 ghost use Rattle.std.specs.Prelude.{◌≡◌, [], OnOk, IfOk};
 ghost use Rattle.std.specs.Fmt.{signed_decimal};
-ghost use Rattle.ob_inspect.specs.Inspect as spec;
-ghost use Rattle.ob_inspect.specs.Inspect.{write, print_parts};
+ghost use Rattle.ob_items.specs.Properties.{entries_of};
+ghost use Rattle.ob_values.specs.Inspect as spec;
+ghost use Rattle.ob_values.specs.Inspect.{write, print_parts};
 
 use crate::page::Page;
 use itoa::Buffer;
 use ob_base::{NoMemory, Text};
-use ob_items::Property;
+use ob_items::{Properties, Property};
 use ob_values::{Body, Regions, Value};
 use std::alloc::Global;
 
@@ -18,8 +19,7 @@ const MAX_VALUES: u32 = 200;
 const MAX_DEPTH: u32 = 6;
 
 /// The text of a value, in UTF-8: at most 200 values, opened to depth 6, with texts and keys to 100
-/// units each. The form is this project's own. Of texts and arrays it reads what it prints and no more;
-/// the properties of an object are copied whole before the first is printed.
+/// units each. The form is this project's own. It reads what it prints and no more.
 ///
 /// # Errors
 /// `NoMemory` where an allocation is refused.
@@ -88,7 +88,7 @@ fn print_body(
     ensures { OnOk result (page.new ≡ spec.print_body depth regions.now body.now page.old) }
 {
     if depth == 0 {
-        page.write_item(alloc, regions, body)
+        page.write_item(regions, body)
     } else {
         print_opened(alloc, page, regions, body, depth - 1)
     }
@@ -112,11 +112,10 @@ fn print_opened(
         }
         Body::Object(properties) => {
             page.write("{")?;
-            let entries = properties.entries(alloc)?;
-            print_properties(alloc, page, regions, entries.as_slice(), depth)?;
+            print_object(alloc, page, regions, properties, depth)?;
             page.write("}")
         }
-        _ => page.write_item(alloc, regions, body),
+        _ => page.write_item(regions, body),
     }
 }
 
@@ -144,7 +143,22 @@ fn print_elements(
     Ok(())
 }
 
-// The properties of an object, with commas between them.
+// The properties of an object: as many as may be printed, and one more, in whose place the dots stand.
+#[cycle(print)]
+fn print_object(
+    alloc: Global,
+    page: &mut Page,
+    regions: &Regions,
+    properties: &Properties,
+    depth: u32,
+) -> Result<(), NoMemory>
+    ensures { OnOk result (page.new ≡ print_parts (spec.print_property (spec.print_value (spec.print_at depth regions.now))) [] (entries_of properties.now) page.old) }
+{
+    let entries = properties.first(alloc, page.left() as usize + 1)?;
+    print_properties(alloc, page, regions, entries.as_slice(), depth)
+}
+
+// Properties, with commas between them.
 #[cycle(print)]
 #[tactic(auto, using(crate::proofs::PrintLemmas::parts_stop))]
 fn print_properties(

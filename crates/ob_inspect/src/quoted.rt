@@ -2,7 +2,7 @@
 ghost use Rattle.std.specs.Prelude.{◌≡◌, ◌<◌, ◌∷◌, ◌++◌, [], take, string_bytes, OnOk, IsTrue};
 ghost use Rattle.std.specs.Char.{encode_utf8, digit_char};
 ghost use Rattle.std.specs.Char.Utf16.{is_high_surrogate, is_low_surrogate, surrogate_pair_char};
-ghost use Rattle.ob_inspect.specs.Inspect as spec;
+ghost use Rattle.ob_values.specs.Inspect as spec;
 
 use ob_base::NoMemory;
 
@@ -10,7 +10,7 @@ use ob_base::NoMemory;
 const MAX_SHOWN_UNITS: usize = 100;
 
 /// Adds a text in quotes, cut after 100 units.
-#[tactic(auto, unfolding(crate::specs::Inspect::quoted))]
+#[tactic(auto, unfolding(ob_values::specs::Inspect::quoted))]
 pub(crate) fn put_quoted(out: &mut String, units: &[u16]) -> Result<(), NoMemory>
     ensures { OnOk result (string_bytes out.new ≡ string_bytes out.old ++ spec.quoted units.now) }
 {
@@ -21,7 +21,7 @@ pub(crate) fn put_quoted(out: &mut String, units: &[u16]) -> Result<(), NoMemory
 }
 
 /// Adds a message, cut after 100 units.
-#[tactic(auto, unfolding(crate::specs::Inspect::message_text))]
+#[tactic(auto, unfolding(ob_values::specs::Inspect::message_text))]
 pub(crate) fn put_message(out: &mut String, units: &[u16]) -> Result<(), NoMemory>
     ensures { OnOk result (string_bytes out.new ≡ string_bytes out.old ++ spec.message_text units.now) }
 {
@@ -93,7 +93,7 @@ fn put_pair(out: &mut String, high: u16, low: u16) -> Result<(), NoMemory>
     Ok(())
 }
 
-#[tactic(auto, unfolding(crate::specs::Inspect::unit_text))]
+#[tactic(auto, unfolding(ob_values::specs::Inspect::unit_text))]
 fn put_unit(out: &mut String, unit: u16, in_quotes: bool) -> Result<(), NoMemory>
     ensures { OnOk result (string_bytes out.new ≡ string_bytes out.old ++ spec.unit_text in_quotes unit) }
 {

@@ -1,5 +1,7 @@
 -- What stands at a place of a list after a write or a push.
-use Rattle.std.proofs.Common.{◌≡◌, ◌≢◌, ◌⊎◌, ℕ, zero, suc, ◌≤◌, Some, None, sym, ◌+◌, List, [], ◌∷◌, ◌++◌, ◌∙◌, refl, slice_get, slice_set, ap, arith, length, map, take, inl, inr}
+use Rattle.std.proofs.Common.{◌≡◌, ◌≢◌, ◌⊎◌, ℕ, zero, suc, ◌≤◌, Some, None, sym, ◌+◌, ◌-◌, List, [], ◌∷◌, ◌++◌, ◌∙◌, refl, slice_get, slice_set, ap, arith, length, map, take, inl, inr}
+use Rattle.std.proofs.Math.Seq.{take-append_seam}
+use Rattle.std.proofs.lemmas.List.{take-map}
 use Rattle.std.proofs.lemmas.Grind.{common_steps}
 use Rattle.std.proofs.lemmas.Bool.{cases_lt}
 use Rattle.std.proofs.lemmas.Option.{same_Some, none-some}
@@ -49,3 +51,26 @@ pub length-le-none : {X : Type 0} (xs : List X) (k : ℕ) → slice_get xs k ≡
 length-le-none [] k e = omega arith
 length-le-none (y ∷ ys) zero e = absurd (none-some y (sym e))
 length-le-none (y ∷ ys) (suc k) e = omega (arith, length-le-none ys k e)
+
+-- the first n of a list that is split after n, or before it at its end
+pub first_split : {X : Type 0} (n : ℕ) (xs ys zs : List X) → xs ++ ys ≡ zs → length xs ≡ n → xs ≡ take n zs
+first_split n xs ys zs e h = sym (ap (take n) (sym e) ∙ ap (λ k. take k (xs ++ ys)) (sym h) ∙ take-append_seam xs ys)
+
+pub first_whole : {X : Type 0} (n : ℕ) (xs : List X) → length xs ≤ n → xs ≡ take n xs
+first_whole zero [] h = refl
+first_whole (suc n) [] h = refl
+first_whole zero (x ∷ xs) h = absurd (omega arith)
+first_whole (suc n) (x ∷ xs) h = ap (λ t. x ∷ t) (first_whole n xs (omega arith))
+
+pub first_append : {X : Type 0} (n : ℕ) (xs ys : List X) → take n xs ++ take (n - length (take n xs)) ys ≡ take n (xs ++ ys)
+first_append zero xs ys = refl
+first_append (suc n) [] ys = let e : suc n - 0 ≡ suc n = omega arith in ap (λ k. take k ys) e
+first_append (suc n) (x ∷ xs) ys =
+    let e : suc n - suc (length (take n xs)) ≡ n - length (take n xs) = omega arith in
+    ap (λ k. x ∷ (take n xs ++ take k ys)) e ∙ ap (λ t. x ∷ t) (first_append n xs ys)
+
+-- the first n of two lists, one behind the other
+pub first_both : {X Y : Type 0} (f : Y → X) (n k : ℕ) (xs es zs : List X) (ys : List Y) → es ≡ take n xs → k ≡ n - length es → zs ≡ es ++ map f (take k ys) → zs ≡ take n (xs ++ map f ys)
+first_both f n k xs es zs ys first left e =
+    e ∙ ap (λ t. es ++ t) (sym (take-map f k ys)) ∙ ap (λ j. es ++ take j (map f ys)) left
+    ∙ ap (λ t. t ++ take (n - length t) (map f ys)) first ∙ first_append n xs (map f ys)

@@ -1,5 +1,5 @@
-ghost use Rattle.std.specs.Prelude.{◌≡◌, ◌++◌, IfOk, OnOk, OnErr, map, decimal};
-ghost use Rattle.ob_items.specs.Properties.{property, with_property, no_properties, values_of, keys_of, entries_of, index_entry, named_entry};
+ghost use Rattle.std.specs.Prelude.{◌≡◌, ◌≤◌, ◌==◌, ◌++◌, IfOk, OnOk, OnErr, length, map, take, decimal};
+ghost use Rattle.ob_items.specs.Properties.{property, with_property, no_properties, count, values_of, keys_of, entries_of, index_entry, named_entry};
 
 use crate::index_text::{decimal_units, index_of};
 use crate::{UnitsMap, Value};
@@ -108,6 +108,27 @@ impl Properties {
         Ok(keys)
     }
 
+    /// Whether there is no property. It takes no memory.
+    pub fn is_empty(&self) -> bool
+        ensures { result ≡ (count self.now == 0) }
+    {
+        self.maps.indices.is_empty() && self.maps.named.len() == 0
+    }
+
+    /// The first n keys with their values, in the order of the keys; all where there are fewer.
+    ///
+    /// # Errors
+    /// `NoMemory` where an allocation is refused.
+    pub fn first(&self, alloc: Global, n: usize) -> Result<List<Property>, NoMemory>
+        ensures { IfOk result (λ entries. entries ≡ take n (entries_of self.now)) }
+    {
+        let maps = &*self.maps;
+        let mut entries = index_entries(alloc, &maps.indices, n)?;
+        let left = n - entries.len();
+        add_named_entries(alloc, &maps.named, left, &mut entries)?;
+        Ok(entries)
+    }
+
     /// The keys with their values, in the order of the keys.
     ///
     /// # Errors
@@ -116,31 +137,42 @@ impl Properties {
         ensures { IfOk result (λ entries. entries ≡ entries_of self.now) }
     {
         let maps = &*self.maps;
-        let mut entries = index_entries(alloc, &maps.indices)?;
-        add_named_entries(alloc, &maps.named, &mut entries)?;
+        let mut entries = index_entries(alloc, &maps.indices, maps.indices.len())?;
+        add_named_entries(alloc, &maps.named, maps.named.len(), &mut entries)?;
         Ok(entries)
     }
 }
 
-fn index_entries(alloc: Global, indices: &BTreeMap<u32, Value>) -> Result<List<Property>, NoMemory>
-    ensures { IfOk result (λ entries. entries ≡ map index_entry indices.now.entries) }
+// The first n of them.
+fn index_entries(
+    alloc: Global,
+    indices: &BTreeMap<u32, Value>,
+    n: usize,
+) -> Result<List<Property>, NoMemory>
+    ensures value { IfOk result (λ entries. entries ≡ take n (map index_entry indices.now.entries)) }
+    ensures most { IfOk result (λ entries. length entries ≤ n) }
 {
     let mut entries = List::new(alloc);
     for (index, value) in indices {
+        if entries.len() == n {
+            return Ok(entries);
+        }
         let key = decimal_units(alloc, u64::from(*index))?;
         entries.push(Property { key, value: *value })?;
     }
     Ok(entries)
 }
 
+// Adds the first n of them.
 fn add_named_entries(
     alloc: Global,
     named: &UnitsMap<Value>,
+    n: usize,
     entries: &mut List<Property>,
 ) -> Result<(), NoMemory>
-    ensures { OnOk result (entries.new ≡ entries.old ++ map named_entry named.now) }
+    ensures { OnOk result (entries.new ≡ entries.old ++ map named_entry (take n named.now)) }
 {
-    for place in 0..named.len() {
+    for place in 0..named.len().min(n) {
         if let Some((key, value)) = named.at(place) {
             let key = Units::from_vec(Vec::from_slice(alloc, key)?);
             entries.push(Property { key, value })?;

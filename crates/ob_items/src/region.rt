@@ -1,4 +1,4 @@
-ghost use Rattle.std.specs.Prelude.{◌≡◌, ◌+◌, ◌==◌, ◌⊎◌, ◌∷◌, ◌++◌, ◌<◌, ◌≤◌, [], false, length, IsSome, unwrap_or, IfOk, IfSome, OnOk, OnErr, slice_get, remove, Some, nat_lt};
+ghost use Rattle.std.specs.Prelude.{◌≡◌, ◌+◌, ◌-◌, ◌==◌, ◌⊎◌, ◌∷◌, ◌++◌, ◌<◌, ◌≤◌, [], false, length, IsSome, unwrap_or, IfOk, IfSome, OnOk, OnErr, slice_get, remove, reverse, Some, nat_lt};
 ghost use Rattle.std.specs.Option.{option_map_or, option_copied};
 ghost use Rattle.ob_items.specs.Bodies.{text_of, array_of, properties_of, box_of, hooks_of, kept_of, after_take, kept_from};
 ghost use Rattle.ob_items.specs.Properties.{with_property};
@@ -157,6 +157,33 @@ impl Region {
         ensures err { OnErr result (self.new ≡ self.old) }
     {
         writes::remove_element(&mut self.items, at, index)
+    }
+
+    /// Takes the last element out of an array; none where it has none.
+    ///
+    /// # Errors
+    /// `Frozen` where the array is frozen; it is then as before.
+    pub fn remove_last(&mut self, at: usize) -> Result<Option<Value>, SetError>
+        requires { IsSome (at_item array_of self.old.items at) }
+        ensures fault { fault_of result ≡ frozen_fault (is_frozen_at self.old.items at) }
+        ensures value { IfOk result (λ value. value ≡ option_map_or (λ vs. slice_get vs (length vs - 1)) (at_item array_of self.old.items at) None) }
+        ensures ok { OnOk result (self.new ≡ rewritten array_of (λ vs. Body.Array (remove vs (length vs - 1))) self.old at false) }
+        ensures err { OnErr result (self.new ≡ self.old) }
+    {
+        writes::remove_last(&mut self.items, at)
+    }
+
+    /// Puts the elements of an array in the opposite order. It takes no memory.
+    ///
+    /// # Errors
+    /// `Frozen` where the array is frozen; it is then as before.
+    pub fn reverse_elements(&mut self, alloc: Global, at: usize) -> Result<(), SetError>
+        requires { IsSome (at_item array_of self.old.items at) }
+        ensures fault { fault_of result ≡ frozen_fault (is_frozen_at self.old.items at) }
+        ensures ok { OnOk result (self.new ≡ rewritten array_of (λ vs. Body.Array (reverse vs)) self.old at false) }
+        ensures err { OnErr result (self.new ≡ self.old) }
+    {
+        writes::reverse_elements(alloc, &mut self.items, at)
     }
 
     /// Counts a hook of an invalidation object.

@@ -1,5 +1,5 @@
 //! Writes of one of the items of a region.
-ghost use Rattle.std.specs.Prelude.{◌≡◌, ◌+◌, ◌<◌, ◌==◌, ◌⊎◌, true, ◌++◌, ◌∷◌, [], IsSome, IfOk, OnOk, OnErr, slice_get, remove, Some, length, nat_eq};
+ghost use Rattle.std.specs.Prelude.{◌≡◌, ◌+◌, ◌-◌, ◌<◌, ◌==◌, ◌⊎◌, true, ◌++◌, ◌∷◌, [], IsSome, IfOk, OnOk, OnErr, slice_get, remove, reverse, Some, length, nat_eq};
 ghost use Rattle.std.specs.Option.{option_map_or};
 ghost use Rattle.std.specs.Cmp.Lexicographic.{pointwise};
 ghost use Rattle.indexmap.specs.IndexMap.{insert_entry};
@@ -10,6 +10,7 @@ ghost use Rattle.ob_items.specs.Items.{at_item, live, is_frozen_at, changed, mar
 use crate::{Body, Frame, HookError, Item, SetError, Taken, UnitsMap, Value};
 use ob_base::{List, MAX_HOOKS, MAX_REGION_ELEMENTS, NoMemory, Units};
 use std::alloc::Global;
+use std::mem;
 
 // Writes an element of an array, or appends one at its length. It answers whether it appended.
 pub(crate) fn set_element(
@@ -128,6 +129,67 @@ pub(crate) fn remove_element(
         Body::Array(values) => Ok(take_element(values, index)),
         _ => unreachable!(),
     }
+}
+
+// Takes the last element out of an array.
+pub(crate) fn remove_last(items: &mut Vec<Item>, at: usize) -> Result<Option<Value>, SetError>
+    requires { IsSome (at_item array_of items.old.items at) }
+    ensures fault { fault_of result ≡ frozen_fault (is_frozen_at items.old.items at) }
+    ensures value { IfOk result (λ value. value ≡ option_map_or (λ vs. slice_get vs (length vs - 1)) (at_item array_of items.old.items at) None) }
+    ensures ok { OnOk result (items.new.items ≡ changed array_of (λ vs. Body.Array (remove vs (length vs - 1))) items.old.items at) }
+    ensures err { OnErr result (items.new.items ≡ items.old.items) }
+{
+    let item = &mut items[at];
+    if item.frozen {
+        return Err(SetError::Frozen);
+    }
+    match &mut item.body {
+        Body::Array(values) => Ok(take_last(values)),
+        _ => unreachable!(),
+    }
+}
+
+fn take_last(values: &mut List<Value>) -> Option<Value>
+    ensures value { result ≡ slice_get values.old (length values.old - 1) }
+    ensures rest { values.new ≡ remove values.old (length values.old - 1) }
+{
+    let len = values.len();
+    if len == 0 {
+        return None;
+    }
+    take_element(values, len - 1)
+}
+
+// Puts the elements of an array in the opposite order.
+pub(crate) fn reverse_elements(
+    alloc: Global,
+    items: &mut Vec<Item>,
+    at: usize,
+) -> Result<(), SetError>
+    requires { IsSome (at_item array_of items.old.items at) }
+    ensures fault { fault_of result ≡ frozen_fault (is_frozen_at items.old.items at) }
+    ensures ok { OnOk result (items.new.items ≡ changed array_of (λ vs. Body.Array (reverse vs)) items.old.items at) }
+    ensures err { OnErr result (items.new.items ≡ items.old.items) }
+{
+    let item = &mut items[at];
+    if item.frozen {
+        return Err(SetError::Frozen);
+    }
+    match &mut item.body {
+        Body::Array(values) => {
+            turn_round(alloc, values);
+            Ok(())
+        }
+        _ => unreachable!(),
+    }
+}
+
+fn turn_round(alloc: Global, values: &mut List<Value>)
+    ensures { values.new ≡ reverse values.old }
+{
+    let mut turned = mem::replace(values, List::new(alloc)).into_vec();
+    turned.reverse();
+    *values = List::from_vec(turned);
 }
 
 fn take_element(values: &mut List<Value>, index: usize) -> Option<Value>

@@ -28,7 +28,7 @@ fn add_texts(
     ensures sound { IfOk result (AddsValue regions.old regions.new []) }
 {
     let units = sum(alloc, regions, region, a, b, left)?;
-    match regions.alloc_text(region, units.as_slice()) {
+    match regions.alloc_units(region, units) {
         Ok(r) => Ok(Value::Ref(r)),
         Err(AllocError::HeapFull) => Err(OpError::HeapFull),
         Err(AllocError::NoMemory) => Err(OpError::NoMemory),

@@ -1,5 +1,5 @@
 -- What is frozen or never written stays as it is.
-use Rattle.std.proofs.Common.{◌≡◌, ◌≢◌, ◌⊎◌, ℕ, Bool, true, false, Some, None, IsSome, IsTrue, List, [], ◌∷◌, refl, ap, subst, ◌∙◌, sym, inl, inr, Option, length, slice_get, slice_set, Result, Ok, Err, OnOk, OnErr, is_some, fold, arith, ◌+◌, remove, IfOk}
+use Rattle.std.proofs.Common.{◌≡◌, ◌≢◌, ◌⊎◌, ℕ, Bool, true, false, Some, None, IsSome, IsTrue, List, [], ◌∷◌, refl, ap, subst, ◌∙◌, sym, inl, inr, Option, length, slice_get, slice_set, Result, Ok, Err, OnOk, OnErr, is_some, fold, arith, ◌+◌, ◌-◌, remove, reverse, IfOk}
 use Rattle.std.proofs.lemmas.Bool.{true≢false}
 use Rattle.std.proofs.lemmas.Option.{none-some, same_Some}
 use Rattle.std.proofs.lemmas.List.{get_or-set_other}
@@ -289,6 +289,16 @@ pub KeepsFixed-remove : {T : Type 0} (result : Result T SetError) (s n : Store) 
     → fault_of result ≡ frozen_fault (is_frozen s r) → OnOk result (n ≡ written array_of (λ values. B.Array (remove values i)) s r false) → OnErr result (n ≡ s) → KeepsFixed s n
 KeepsFixed-remove result s n r i there fault =
     KeepsFixed-result array_of (λ values. B.Array (remove values i)) array_kind result s n r false there (thawed-frozen result (is_frozen s r) fault)
+
+pub KeepsFixed-last : {T : Type 0} (result : Result T SetError) (s n : Store) (r : Ref) → IsSome (read_item array_of s r)
+    → fault_of result ≡ frozen_fault (is_frozen s r) → OnOk result (n ≡ written array_of (λ values. B.Array (remove values (length values - 1))) s r false) → OnErr result (n ≡ s) → KeepsFixed s n
+KeepsFixed-last result s n r there fault =
+    KeepsFixed-result array_of (λ values. B.Array (remove values (length values - 1))) array_kind result s n r false there (thawed-frozen result (is_frozen s r) fault)
+
+pub KeepsFixed-reverse : {T : Type 0} (result : Result T SetError) (s n : Store) (r : Ref) → IsSome (read_item array_of s r)
+    → fault_of result ≡ frozen_fault (is_frozen s r) → OnOk result (n ≡ written array_of (λ values. B.Array (reverse values)) s r false) → OnErr result (n ≡ s) → KeepsFixed s n
+KeepsFixed-reverse result s n r there fault =
+    KeepsFixed-result array_of (λ values. B.Array (reverse values)) array_kind result s n r false there (thawed-frozen result (is_frozen s r) fault)
 
 pub KeepsFixed-hook : {T : Type 0} (result : Result T HookError) (s n : Store) (r : Ref) (hooks : ℕ) → IsSome (read_item hooks_of s r)
     → fault_of result ≡ hook_fault (is_frozen s r) hooks → OnOk result (n ≡ written hooks_of (λ hooks. B.Invalidation (hooks + 1)) s r false) → OnErr result (n ≡ s) → KeepsFixed s n

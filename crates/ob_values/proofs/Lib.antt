@@ -1,5 +1,6 @@
 pub mod BuildLemmas
 pub mod CycleLemmas
+pub mod EffectLemmas
 pub mod FixedLemmas
 pub mod LiteralSound
 pub mod PlacedLemmas

@@ -1,5 +1,6 @@
 -- What the item that a call writes leads to.
-use Rattle.std.proofs.Common.{◌≡◌, ◌⊎◌, ℕ, zero, suc, ◌+◌, Bool, true, false, cond, Some, None, IsSome, List, [], ◌∷◌, ◌++◌, refl, ap, subst, ◌∙◌, sym, inl, inr, Option, length, slice_set, take, drop, remove, ◌==◌, nat_eq, map, Result, OnOk, OnErr}
+use Rattle.std.proofs.Common.{◌≡◌, ◌⊎◌, ℕ, zero, suc, ◌+◌, ◌-◌, Bool, true, false, cond, Some, None, IsSome, List, [], ◌∷◌, ◌++◌, refl, ap, subst, ◌∙◌, sym, inl, inr, Option, length, slice_set, take, drop, remove, reverse, ◌==◌, nat_eq, map, Result, OnOk, OnErr}
+use Rattle.std.proofs.lemmas.List.{reverse-append}
 use Rattle.std.proofs.lemmas.Option.{none-some, same_Some}
 use Rattle.std.proofs.lemmas.List.Elements.{Contains-append_cases, Contains-append_left, Contains-append_right, Contains-push_cases}
 use Rattle.std.specs.declared.cmp.Ordering.{Ordering}
@@ -85,6 +86,14 @@ from_drop (suc i) (x ∷ xs) w h = Contains-cons x xs w (from_drop i xs w h)
 
 remove_cases : (xs : List Value) (i : ℕ) (w : Value) → Contains (remove xs i) w → Contains xs w
 remove_cases xs i w h = elim (Contains-append_cases (take i xs) (drop (suc i) xs) w h) [ inl t ↦ from_take i xs w t | inr t ↦ from_drop (suc i) xs w t ]
+
+reverse_cases : (xs : List Value) (w : Value) → Contains (reverse xs) w → Contains xs w
+reverse_cases [] w h = absurd (Contains-none w h)
+reverse_cases (x ∷ xs) w h =
+    elim (Contains-push_cases (reverse xs) x w (subst (λ l. Contains l w) (reverse-append (x ∷ []) xs) h)) [
+      | inl t ↦ Contains-cons x xs w (reverse_cases xs w t)
+      | inr e ↦ Contains-head x xs w e
+    ]
 
 fewer : (xs ys : List Value) → ((w : Value) → Contains xs w → Contains ys w) → (q : Pointer) → Contains (pointers_of xs) q → Contains (pointers_of ys) q ⊎ Contains [] q
 fewer xs ys among q h = let t = from_values xs q h in inl (to_values ys t.0 q (among t.0 t.1) t.2)
@@ -221,6 +230,18 @@ pub KeepsSound-remove : {E : Type 0} (result : Result (Option Value) E) (s n : S
 KeepsSound-remove result s n r i =
     KeepsSound-result array_of B.Array (λ values. B.Array (remove values i)) [] array_is (λ x. array_sorts (remove x i) x)
     (λ x f q h. fewer (remove x i) x (remove_cases x i) q h) result s n r false
+
+pub KeepsSound-last : {E : Type 0} (result : Result (Option Value) E) (s n : Store) (r : Ref) → IsSome (read_item array_of s r)
+    → OnOk result (n ≡ written array_of (λ values. B.Array (remove values (length values - 1))) s r false) → OnErr result (n ≡ s) → KeepsSound s n []
+KeepsSound-last result s n r =
+    KeepsSound-result array_of B.Array (λ values. B.Array (remove values (length values - 1))) [] array_is (λ x. array_sorts (remove x (length x - 1)) x)
+    (λ x f q h. fewer (remove x (length x - 1)) x (remove_cases x (length x - 1)) q h) result s n r false
+
+pub KeepsSound-reverse : {E : Type 0} (result : Result (Unit {0}) E) (s n : Store) (r : Ref) → IsSome (read_item array_of s r)
+    → OnOk result (n ≡ written array_of (λ values. B.Array (reverse values)) s r false) → OnErr result (n ≡ s) → KeepsSound s n []
+KeepsSound-reverse result s n r =
+    KeepsSound-result array_of B.Array (λ values. B.Array (reverse values)) [] array_is (λ x. array_sorts (reverse x) x)
+    (λ x f q h. fewer (reverse x) x (reverse_cases x) q h) result s n r false
 
 pub KeepsSound-hook : {E : Type 0} (result : Result (Unit {0}) E) (s n : Store) (r : Ref) → IsSome (read_item hooks_of s r)
     → OnOk result (n ≡ written hooks_of (λ hooks. B.Invalidation (hooks + 1)) s r false) → OnErr result (n ≡ s) → KeepsSound s n []

@@ -1,5 +1,12 @@
+pub mod ArrayMethods
+pub mod BuiltinNames
+pub mod Builtins
+pub mod Effects
 pub mod Fixed
 pub mod Freeze
+pub mod Functions
+pub mod Inspect
+pub mod ObjectFunctions
 pub mod Operators
 pub mod Placed
 pub mod PlainOf
@@ -7,4 +14,5 @@ pub mod PlainSearch
 pub mod Reach
 pub mod Sound
 pub mod Store
+pub mod TextMethods
 pub mod Values

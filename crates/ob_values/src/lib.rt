@@ -1,6 +1,8 @@
 //! The store of values: regions of items, with all calls on them.
 #![tactic(auto)]
 
+mod charge;
+mod done;
 mod freeze;
 mod place;
 mod plain;
@@ -8,6 +10,7 @@ mod read;
 mod regions;
 mod seen;
 
+pub use done::Done;
 pub use ob_items::{
     AllocError, Body, Boxed, Catch, Closure, CodeKey, ErrorKind, Failure, Frame, HookError, Item,
     Kind, OpError, PlainError, Ref, RegionKey, SetError, Taken, TextError, Thrown, Value,

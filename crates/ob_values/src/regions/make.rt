@@ -124,6 +124,26 @@ impl Regions {
         }
     }
 
+    /// As `alloc_array`, of a list that it takes.
+    ///
+    /// # Errors
+    /// As `alloc_array`.
+    pub fn alloc_values(&mut self, region: RegionKey, items: List<Value>) -> Result<Ref, AllocError>
+        requires { IsOpen self.old region }
+        ensures full { result ≡ Err AllocError.HeapFull ↔ (50000 < elements_in self.old region + (1 + length items)) }
+        ensures key { IfOk result (λ r. r ≡ next_ref self.old region) }
+        ensures ok { OnOk result (self.new ≡ with_new self.old region (live (Body.Array items)) (1 + length items)) }
+        ensures fixed { OnOk result (KeepsFixed self.old self.new) }
+        ensures sound { IfOk result (AddsItem self.old self.new (Body.Array items)) }
+        ensures err { OnErr result (self.new ≡ self.old) }
+    {
+        let cost = items.len() + 1;
+        if self.is_full_for(region, cost) {
+            return Err(AllocError::HeapFull);
+        }
+        self.add(region, Body::Array(items), cost as u32)
+    }
+
     /// Makes an object of no property, which costs 1 element.
     ///
     /// # Errors
@@ -167,6 +187,26 @@ impl Regions {
             Ok(copy) => self.add(region, Body::Text(Units::from_vec(copy)), cost as u32),
             Err(_) => Err(AllocError::NoMemory),
         }
+    }
+
+    /// As `alloc_text`, of units that it takes.
+    ///
+    /// # Errors
+    /// As `alloc_array`.
+    pub fn alloc_units(&mut self, region: RegionKey, units: Units) -> Result<Ref, AllocError>
+        requires { IsOpen self.old region }
+        ensures full { result ≡ Err AllocError.HeapFull ↔ (50000 < elements_in self.old region + text_cost (length units)) }
+        ensures key { IfOk result (λ r. r ≡ next_ref self.old region) }
+        ensures ok { OnOk result (self.new ≡ with_new self.old region (live (Body.Text units)) (text_cost (length units))) }
+        ensures fixed { OnOk result (KeepsFixed self.old self.new) }
+        ensures sound { IfOk result (AddsItem self.old self.new (Body.Text units)) }
+        ensures err { OnErr result (self.new ≡ self.old) }
+    {
+        let cost = text_elements(units.as_slice().len());
+        if self.is_full_for(region, cost) {
+            return Err(AllocError::HeapFull);
+        }
+        self.add(region, Body::Text(units), cost as u32)
     }
 
     /// Makes the box of a captured binding, which costs 1 element; it holds none before the

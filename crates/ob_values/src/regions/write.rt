@@ -1,5 +1,5 @@
 //! The calls that write an item.
-ghost use Rattle.std.specs.Prelude.{◌≡◌, ◌≢◌, ◌+◌, ◌∷◌, [], ◌⊎◌, ◌==◌, false, IsSome, OnOk, OnErr, IfOk, Some, slice_get, pos, ◌≤ℤ◌, remove, unsigned_abs};
+ghost use Rattle.std.specs.Prelude.{◌≡◌, ◌≢◌, ◌+◌, ◌-◌, ◌∷◌, [], ◌⊎◌, ◌==◌, false, IsSome, OnOk, OnErr, IfOk, Some, slice_get, pos, ◌≤ℤ◌, length, remove, reverse, unsigned_abs};
 ghost use Rattle.std.specs.Option.{option_map_or};
 ghost use Rattle.ob_items.specs.Bodies.{array_of, properties_of, box_of, hooks_of, kept_of, after_take, kept_from};
 ghost use Rattle.ob_items.specs.Items.{fault_of, element_fault, property_fault, frozen_fault, hook_fault, with_element};
@@ -94,6 +94,38 @@ impl Regions {
         self.write_removal(r, index)
     }
 
+    /// Takes the last element of an array; none where it has none. It takes no memory, and the region's
+    /// elements stay.
+    ///
+    /// # Errors
+    /// `Frozen` exactly where the array is frozen; all is then as before.
+    pub fn remove_last(&mut self, r: Ref) -> Result<Option<Value>, SetError>
+        requires { IsSome (read_item array_of self.old r) }
+        ensures fault { fault_of result ≡ frozen_fault (is_frozen self.old r) }
+        ensures value { IfOk result (λ value. value ≡ option_map_or (λ values. slice_get values (length values - 1)) (read_item array_of self.old r) None) }
+        ensures ok { OnOk result (self.new ≡ written array_of (λ values. Body.Array (remove values (length values - 1))) self.old r false) }
+        ensures err { OnErr result (self.new ≡ self.old) }
+        ensures kept { KeepsSound self.old self.new ([]) }
+        ensures fixed { KeepsFixed self.old self.new }
+    {
+        self.write_last_removal(r)
+    }
+
+    /// Puts the elements of an array in the opposite order. It takes no memory.
+    ///
+    /// # Errors
+    /// `Frozen` exactly where the array is frozen; all is then as before.
+    pub fn reverse(&mut self, r: Ref) -> Result<(), SetError>
+        requires { IsSome (read_item array_of self.old r) }
+        ensures fault { fault_of result ≡ frozen_fault (is_frozen self.old r) }
+        ensures ok { OnOk result (self.new ≡ written array_of (λ values. Body.Array (reverse values)) self.old r false) }
+        ensures err { OnErr result (self.new ≡ self.old) }
+        ensures kept { KeepsSound self.old self.new ([]) }
+        ensures fixed { KeepsFixed self.old self.new }
+    {
+        self.write_reversal(r)
+    }
+
     /// Counts a hook of an invalidation object. It takes no memory.
     ///
     /// # Errors
@@ -165,6 +197,31 @@ impl Regions {
     {
         match self.slots.get_mut(r.region.0) {
             Some(region) => region.remove_element(r.item, index as usize),
+            None => unreachable!(),
+        }
+    }
+
+    fn write_last_removal(&mut self, r: Ref) -> Result<Option<Value>, SetError>
+        requires { IsSome (read_item array_of self.old r) }
+        ensures fault { fault_of result ≡ frozen_fault (is_frozen self.old r) }
+        ensures value { IfOk result (λ value. value ≡ option_map_or (λ values. slice_get values (length values - 1)) (read_item array_of self.old r) None) }
+        ensures ok { OnOk result (self.new ≡ written array_of (λ values. Body.Array (remove values (length values - 1))) self.old r false) }
+        ensures err { OnErr result (self.new ≡ self.old) }
+    {
+        match self.slots.get_mut(r.region.0) {
+            Some(region) => region.remove_last(r.item),
+            None => unreachable!(),
+        }
+    }
+
+    fn write_reversal(&mut self, r: Ref) -> Result<(), SetError>
+        requires { IsSome (read_item array_of self.old r) }
+        ensures fault { fault_of result ≡ frozen_fault (is_frozen self.old r) }
+        ensures ok { OnOk result (self.new ≡ written array_of (λ values. Body.Array (reverse values)) self.old r false) }
+        ensures err { OnErr result (self.new ≡ self.old) }
+    {
+        match self.slots.get_mut(r.region.0) {
+            Some(region) => region.reverse_elements(self.alloc, r.item),
             None => unreachable!(),
         }
     }

@@ -231,7 +231,7 @@ fn plain_data_is_placed(rt: HostRuntime) -> Result<(), Fail> {
                 assert!(rt; is_array_of(&prop.value, 2) != is_number);
             }
         }
-        _ => assert!(rt; false),
+        _other => assert!(rt; false),
     }
     Ok(())
 }

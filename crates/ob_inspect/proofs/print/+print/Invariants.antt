@@ -1,24 +1,27 @@
 use Rattle.std.proofs.Common.{◌≡◌, ◌+◌, ◌*◌, drop, [], codes, if◌then◌else◌}
-use Rattle.ob_inspect.specs.Inspect.{print_value, print_property, print_at, print_parts}
+use Rattle.ob_values.specs.Inspect.{print_value, print_property, print_at, print_parts}
 use Rattle.ob_inspect.proofs.print.+print.Given as goal
 
 abbrev pub decreases-print_value : goal.decreases-print_value
-decreases-print_value l = 5 * l.depth + 3
+decreases-print_value l = 6 * l.depth + 3
 
 abbrev pub decreases-print_body : goal.decreases-print_body
-decreases-print_body l = 5 * l.depth + 2
+decreases-print_body l = 6 * l.depth + 2
 
 abbrev pub decreases-print_opened : goal.decreases-print_opened
-decreases-print_opened l = 5 * l.depth + 6
+decreases-print_opened l = 6 * l.depth + 7
 
 abbrev pub decreases-print_elements : goal.decreases-print_elements
-decreases-print_elements l = 5 * l.depth + 4
+decreases-print_elements l = 6 * l.depth + 4
+
+abbrev pub decreases-print_object : goal.decreases-print_object
+decreases-print_object l = 6 * l.depth + 6
 
 abbrev pub decreases-print_properties : goal.decreases-print_properties
-decreases-print_properties l = 5 * l.depth + 5
+decreases-print_properties l = 6 * l.depth + 5
 
 abbrev pub decreases-print_property : goal.decreases-print_property
-decreases-print_property l = 5 * l.depth + 4
+decreases-print_property l = 6 * l.depth + 4
 
 abbrev pub invariant-print_elements-loop-value : goal.invariant-print_elements-loop-value
 invariant-print_elements-loop-value l =

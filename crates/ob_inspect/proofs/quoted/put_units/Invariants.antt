@@ -1,6 +1,6 @@
 use Rattle.std.proofs.Common.{◌≡◌, ◌++◌, length}
 use Rattle.std.specs.Prelude.{string_bytes}
-use Rattle.ob_inspect.specs.Inspect.{units_text}
+use Rattle.ob_values.specs.Inspect.{units_text}
 use Rattle.ob_inspect.proofs.quoted.put_units.Given as goal
 
 abbrev pub invariant-loop-left : goal.invariant-loop-left

@@ -1,4 +1,4 @@
-use Rattle.std.proofs.Common.{◌≡◌, ◌++◌, ◌∷◌, [], ◌∙◌, ap, sym, append_assoc, arith, map, take}
+use Rattle.std.proofs.Common.{◌++◌, ◌∷◌, [], ◌∙◌, ap, sym, append_assoc, arith, map, take}
 use Rattle.ob_items.specs.Properties.{named_entry}
 use Rattle.ob_items.proofs.ListLemmas.{map_take_more, length-le-none}
 use Rattle.ob_items.proofs.properties.add_named_entries.Goals as goal
@@ -17,5 +17,5 @@ loop-place-preserved c =
       | in_default w ↦
           let past = length-le-none c.args.named.now c.loop-place.place (sym w.in_default.ensures) in
           let here = c.loop-place-test.true in
-          absurd (omega (arith, past, here, c.len-place-end.ensures))
+          absurd (omega (arith, past, here, c.min-place-end.ensures, c.len.ensures))
     ]

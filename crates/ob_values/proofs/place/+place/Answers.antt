@@ -4,7 +4,7 @@ use Rattle.ob_items.specs.Properties.{values_of, with_property}
 use Rattle.ob_items.specs.declared.item.Body.TheVariants as B
 use Rattle.ob_values.specs.Placed.{PlacedItems, PlacedProps, placed, placed_prop, add_item, add_prop}
 use Rattle.ob_values.specs.Sound.{AddsValues}
-use Rattle.ob_values.proofs.FixedLemmas.{KeepsFixed-refl, KeepsFixed-then, KeepsFixed-after}
+use Rattle.ob_values.proofs.FixedLemmas.{KeepsFixed-then, KeepsFixed-after}
 use Rattle.ob_values.proofs.PlacedLemmas.{AddsValues-made, AddsValues-push, AddsValues-property, item-more, prop-more, sum-next, placed_prop-is, prop_elements-is}
 use Rattle.ob_values.proofs.place.+place.Goals as goal
 

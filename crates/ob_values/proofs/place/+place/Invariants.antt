@@ -1,4 +1,4 @@
-use Rattle.std.proofs.Common.{◌≡◌, ◌+◌, IsSome, drop, map}
+use Rattle.std.proofs.Common.{◌≡◌, ◌+◌, drop, map}
 use Rattle.std.specs.Prelude.{sum, fold}
 use Rattle.ob_base.specs.PlainData.{elements, prop_elements}
 use Rattle.ob_items.specs.Properties.{values_of}

@@ -1,4 +1,4 @@
-use Rattle.std.proofs.Common.{◌≡◌, [], ap, sym, not, true, nat_lt, ◌<◌, arith}
+use Rattle.std.proofs.Common.{[], arith}
 use Rattle.std.proofs.lemmas.Bool.Decides.{nat_tests}
 use Rattle.ob_values.proofs.TreeLemmas.{count-more, count-smaller, count-large}
 use Rattle.ob_values.proofs.plain.walk.is_small.Goals as goal

@@ -1,4 +1,4 @@
-use Rattle.std.proofs.Common.{◌≡◌, ◌∙◌, ap, sym, inr, true, false, arith, Ok, Err}
+use Rattle.std.proofs.Common.{◌≡◌, ◌∙◌, ap, sym, inr, false, arith, Ok, Err}
 use Rattle.std.specs.Option.{option_map_or}
 use Rattle.ob_items.specs.declared.error.PlainError.TheVariants as E
 use Rattle.ob_values.specs.PlainOf.{is_large}

@@ -9,7 +9,7 @@ use Rattle.ob_base.specs.declared.limits.Limit.{Limit}
 use Rattle.ob_base.specs.declared.limits.Limit.TheVariants as L
 use Rattle.ob_items.specs.Bodies.{text_of}
 use Rattle.ob_items.specs.IndexText.{index_in}
-use Rattle.ob_items.specs.Properties.{values_of, entries_of}
+use Rattle.ob_items.specs.Properties.{Keyed, count, entries_of}
 use Rattle.ob_items.specs.declared.properties.Property.{Property}
 use Rattle.ob_items.specs.declared.error.Failure.{Failure}
 use Rattle.ob_items.specs.declared.error.Failure.TheVariants as F
@@ -123,20 +123,19 @@ message_units s message = unwrap_or (read_item text_of s message) []
 abbrev pub error_text : Store → ErrorKind → Ref → List ℕ
 error_text s kind message = error_name kind ++ codes "(" ++ quoted (message_units s message) ++ codes ")"
 
--- an array or object that is not opened, by the values in it
+-- an array or object that is not opened
 abbrev pub closed_array : List Value → List ℕ
 closed_array [] = codes "[]"
 closed_array (v ∷ vs) = codes "[...]"
 
-abbrev pub closed_object : List Value → List ℕ
-closed_object [] = codes "{}"
-closed_object (v ∷ vs) = codes "{...}"
+abbrev pub closed_object : Keyed → List ℕ
+closed_object properties = if count properties == 0 then codes "{}" else codes "{...}"
 
 -- an item that is not opened; no program has a box or an array of inputs as a value
 abbrev pub item_text : Store → Body → List ℕ
 item_text s (B.Text units) = quoted units
 item_text s (B.Array values) = closed_array values
-item_text s (B.Object properties) = closed_object (values_of properties)
+item_text s (B.Object properties) = closed_object properties
 item_text s (B.Box value) = codes "undefined"
 item_text s (B.Closure closure) = codes "function"
 item_text s (B.Generator kept) = codes "generator"
