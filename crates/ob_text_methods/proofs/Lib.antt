@@ -1,0 +1,6 @@
+pub mod ErrorLemmas
+pub mod PartLemmas
+pub mod PieceLemmas
+pub mod PlaceLemmas
+pub mod SearchLemmas
+pub mod UnitLemmas

@@ -1,0 +1,3 @@
+pub mod Parts
+pub mod Room
+pub mod Search
