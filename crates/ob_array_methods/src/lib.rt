@@ -1,0 +1,14 @@
+//! The methods of arrays, and the functions of `Object` and of `Array`.
+#![tactic(auto)]
+
+mod arguments;
+mod changes;
+mod copies;
+mod making;
+mod objects;
+mod searches;
+
+pub use changes::{pop, push, reverse, shift};
+pub use copies::slice;
+pub use objects::{has_own, keys, values};
+pub use searches::{includes, index_of, is_array};
