@@ -12,3 +12,6 @@ pub use changes::{pop, push, reverse, shift};
 pub use copies::slice;
 pub use objects::{has_own, keys, values};
 pub use searches::{includes, index_of, is_array};
+
+#[cfg(test)]
+mod tests;
