@@ -9,7 +9,7 @@ mod objects;
 mod searches;
 
 pub use changes::{pop, push, reverse, shift};
-pub use copies::slice;
+pub use copies::{concat, slice};
 pub use objects::{has_own, keys, values};
 pub use searches::{includes, index_of, is_array};
 
