@@ -8,10 +8,10 @@ ghost use Rattle.ob_values.specs.Operators.{AddsValue};
 ghost use Rattle.ob_values.specs.Sound.{AsValue, pointers_of};
 ghost use Rattle.ob_values.specs.Store.{IsOpen};
 
-use crate::arguments::{array_of, elements_of, places};
+use crate::arguments::{array_of, elements_of};
 use crate::making::give_array;
 use ob_base::{List, MAX_REGION_ELEMENTS, NoMemory};
-use ob_values::{Done, OpError, Ref, RegionKey, Regions, Thrown, Value};
+use ob_values::{Done, OpError, Ref, RegionKey, Regions, Thrown, Value, places_of};
 use std::alloc::Global;
 
 // What stands from the first place up to before the second.
@@ -46,7 +46,7 @@ pub fn slice(
     ensures fixed { KeepsFixed regions.old regions.new }
 {
     let values = elements_of(regions, receiver);
-    match places(values.len(), args) {
+    match places_of(values.len(), args) {
         Some((from, to)) => {
             let part = part(values, from, to);
             regions.charge(region, 1 + part.len(), 0, left)?;

@@ -9,11 +9,10 @@ ghost use Rattle.ob_values.specs.Operators.{AddsValue, text_in};
 ghost use Rattle.ob_values.specs.Sound.{AddsValues, pointers_of};
 ghost use Rattle.ob_values.specs.Store.{IsOpen, elements_in};
 
-use crate::arguments::argument;
 use crate::making::give_array;
 use ob_base::{List, NoMemory, Units};
 use ob_items::{Properties, integer_units};
-use ob_values::{Body, Done, OpError, RegionKey, Regions, Thrown, Value};
+use ob_values::{Body, Done, OpError, RegionKey, Regions, Thrown, Value, argument};
 use std::alloc::Global;
 
 // The properties of a value that is an object.

@@ -7,8 +7,8 @@ ghost use Rattle.ob_values.specs.Sound.{pointers_of};
 ghost use Rattle.ob_values.specs.Store.{IsOpen};
 ghost use Rattle.std.specs.Result.{result_map_both};
 
-use crate::arguments::{argument, array_of, elements_of};
-use ob_values::{Done, OpError, Ref, RegionKey, Regions, Value};
+use crate::arguments::{array_of, elements_of};
+use ob_values::{Done, OpError, Ref, RegionKey, Regions, Value, argument};
 
 // The first place of an element that is the same as the value by `===`.
 fn place_among(regions: &Regions, receiver: Ref, value: Value) -> Option<usize>

@@ -1,1 +1,2 @@
+pub mod AsciiWords
 pub mod ReservedWords

@@ -5,6 +5,7 @@
 mod builtins;
 mod cause;
 mod command;
+mod escapes;
 mod label;
 mod limits;
 mod list;
@@ -21,6 +22,7 @@ mod units;
 pub use builtins::{BUILTIN_NAMES, is_builtin_name};
 pub use cause::Cause;
 pub use command::{Command, NewCell};
+pub use escapes::{is_ascii_word, put_ascii, put_units};
 pub use label::{Label, Part, PathId};
 pub use limits::{
     Budget, Limit, MAX_ARRAY_DEPTH, MAX_CALL_DEPTH, MAX_CELL_TEXT_BYTES, MAX_HOOKS,

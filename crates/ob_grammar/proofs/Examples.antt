@@ -28,7 +28,8 @@ use Rattle.std.specs.Fmt.{digits}
 use Rattle.ob_tree_types.specs.declared.tree.Expr.{out-Expr, the_lemmas}
 use Rattle.ob_grammar.specs.Grammar.{arrow_function}
 use Rattle.ob_grammar.specs.Cells.{of_block, of_value}
-use Rattle.ob_grammar.specs.Marks.{word_of, utf16, key_of, literal_of, mark_rank, rank_by, infix_of, unary_of, update_of, assign_of, change_of, step_of, declares_constant}
+use Rattle.ob_base.specs.Utf16.{utf16}
+use Rattle.ob_grammar.specs.Marks.{word_of, key_of, literal_of, mark_rank, rank_by, infix_of, unary_of, update_of, assign_of, change_of, step_of, declares_constant}
 use Rattle.ob_grammar.specs.Forms.{ends_value}
 use Rattle.ob_grammar.specs.Yields.{yields_in, yields}
 use Rattle.ob_grammar.specs.Early.{is_free_of_errors}

@@ -1,8 +1,6 @@
 -- What the grammar asks of a single token, and the tables of the operators.
-use Rattle.std.specs.Prelude.{◌≡◌, ℕ, Bool, true, false, if◌then◌else◌, List, [], ◌∷◌, Option, Some, None, chars}
-use Rattle.std.specs.List.{flat_map}
+use Rattle.std.specs.Prelude.{◌≡◌, ℕ, Bool, true, false, if◌then◌else◌, List, [], ◌∷◌, Option, Some, None}
 use Rattle.std.specs.Fmt.{signed_decimal}
-use Rattle.std.specs.Char.Escape.{encode_utf16}
 use Rattle.ob_base.specs.declared.operators.BinaryOp.TheVariants as binary
 use Rattle.ob_base.specs.declared.operators.CompareOp.TheVariants as compare
 use Rattle.ob_base.specs.declared.operators.UnaryOp.{UnaryOp}
@@ -17,6 +15,7 @@ use Rattle.ob_lex.specs.declared.token.Token.{Token}
 use Rattle.ob_lex.specs.declared.token.TokenKind.{TokenKind}
 use Rattle.ob_lex.specs.declared.token.TokenKind.TheVariants as kind
 use Rattle.ob_base.specs.Reserved.{spelling}
+use Rattle.ob_base.specs.Utf16.{utf16}
 use Rattle.ob_tree_types.specs.declared.operators.LogicOp.TheVariants as logic
 use Rattle.ob_tree_types.specs.declared.operators.AssignOp.{AssignOp}
 use Rattle.ob_tree_types.specs.declared.operators.AssignOp.TheVariants as assign
@@ -62,10 +61,6 @@ unfoldable pub word_of : TokenKind → Option (List ℕ)
 word_of (kind.Name x) = Some x
 word_of (kind.Reserved w) = Some (spelling w)
 word_of _ = None
-
--- the UTF-16 code units of a text in UTF-8 (ECMA-262, "The String Type")
-unfoldable pub utf16 : List ℕ → List ℕ
-utf16 text = flat_map encode_utf16 (chars text)
 
 -- the key that a token is in an object literal: that of a number is its decimal text (ECMA-262, "Object Initializer", PropertyName)
 unfoldable pub key_of : TokenKind → Option (List ℕ)

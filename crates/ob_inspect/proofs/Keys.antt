@@ -1,18 +1,16 @@
 -- Plain keys are characters of ASCII.
 use Rattle.std.proofs.Common.{◌≡◌, ℕ, ◌<◌, ◌^◌, Bool, true, false, List, [], ◌∷◌, Some, None, ◌&&◌, ◌||◌, arith, refl, sym, ap, subst, ◌∙◌, decimal, nat_eq, nat_lt}
 use Rattle.std.specs.Prelude.{is_some, if◌then◌else◌}
-use Rattle.std.specs.List.{All, list_all}
+use Rattle.std.specs.List.{All}
 use Rattle.std.specs.Cmp.Lexicographic.{pointwise}
 use Rattle.std.proofs.lemmas.Bool.{true≢false, eqb-true}
 use Rattle.std.proofs.lemmas.Bool.Decides.{nat_tests}
 use Rattle.std.proofs.lemmas.Fmt.{IsAscii-decimal}
 use Rattle.std.proofs.lemmas.Str.Ascii.{All-from_ascii}
-use Rattle.std.proofs.lemmas.List.Sums.{AllPass-from_list_all}
 use Rattle.ob_items.specs.IndexText.{index_in, read}
-use Rattle.ob_values.specs.Inspect.{is_plain_key, begins_ascii_name, continues_ascii_name}
-
-small : (u : ℕ) → continues_ascii_name u ≡ true → u < 128
-small u h = grind (arith, nat_tests)
+use Rattle.ob_base.specs.Escapes.{is_ascii_word}
+use Rattle.ob_base.proofs.AsciiWords.{word_is_ascii}
+use Rattle.ob_values.specs.Inspect.{is_plain_key}
 
 right : (a b : Bool) → (a && b) ≡ true → b ≡ true
 right true b h = h
@@ -43,14 +41,10 @@ index_is_ascii units h =
     let below : read units < 2 ^ 64 = omega (arith, l) in
     subst (All (λ u. u < 128)) (sym (same_text units _ t.0)) (All-from_ascii _ (IsAscii-decimal (read units) below))
 
-name_is_ascii : (units : List ℕ) → list_all continues_ascii_name units ≡ true → All (λ u. u < 128) units
-name_is_ascii units h = λ k d below. small _ (AllPass-from_list_all continues_ascii_name units h k d below)
-
-either : (units : List ℕ) (a b : Bool) → list_all continues_ascii_name units ≡ b → ((a && b) || is_some (index_in units)) ≡ true → All (λ u. u < 128) units
-either units true true e h = name_is_ascii units e
-either units true false e h = index_is_ascii units h
-either units false b e h = index_is_ascii units h
+either : (units : List ℕ) (w : Bool) → is_ascii_word units ≡ w → (w || is_some (index_in units)) ≡ true → All (λ u. u < 128) units
+either units true e h = word_is_ascii units e
+either units false e h = index_is_ascii units h
 
 pub plain_is_ascii : (units : List ℕ) → is_plain_key units ≡ true → All (λ u. u < 128) units
 unfolding is_plain_key
-plain_is_ascii units h = either units (begins_ascii_name units) (list_all continues_ascii_name units) refl (right _ _ h)
+plain_is_ascii units h = either units (is_ascii_word units) refl (right _ _ h)

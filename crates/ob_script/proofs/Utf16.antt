@@ -12,7 +12,7 @@ use Rattle.std.specs.Str.{encode_utf8_all, chars, IsUtf8}
 use lib.Utf8.{scalar, scalars, scalar_cases}
 use Rattle.std.specs.Char.Utf16.{utf16_chars, utf16_lossy_chars, lone_unit_char, surrogate_pair_char, is_high_surrogate, is_low_surrogate}
 use Rattle.ob_script.specs.Forms.{is_text}
-use Rattle.ob_script.specs.Inputs.{utf16}
+use Rattle.ob_base.specs.Utf16.{utf16}
 use Rattle.ob_script.specs.Texts.{utf8}
 
 no_pair : (b : Bool) → (b && false) ≡ true → ⊥

@@ -12,7 +12,8 @@ use Rattle.ob_base.specs.declared.command.Command.TheVariants as commands
 use Rattle.ob_base.specs.declared.command.NewCell.{NewCell}
 use Rattle.ob_script.specs.Ids.{is_cell_id, is_notebook_id}
 use Rattle.ob_base.specs.Integers.{is_in_range}
-use Rattle.ob_script.specs.Inputs.{utf16, is_within_limits}
+use Rattle.ob_base.specs.Utf16.{utf16}
+use Rattle.ob_script.specs.Inputs.{is_within_limits}
 use Rattle.ob_script.specs.Texts.{utf8}
 
 -- ---- plain data that JSON can be read as

@@ -1,8 +1,5 @@
 -- What the `value` of an input reads as (this project).
 use Rattle.std.specs.Prelude.{ℕ, ℤ, pos, negsuc, List, [], ◌∷◌, ◌&&◌, codes, Bool, nat_le, int_le, Option, Some, None, Result, Ok, Err, if◌then◌else◌}
-use Rattle.std.specs.Char.Escape.{encode_utf16}
-use Rattle.std.specs.List.{flat_map}
-use Rattle.std.specs.Str.{chars}
 use Rattle.serde_json.specs.Data.{Num, Data, null, boolean, number, string, array, object, Items, no_items, item, Members, no_members, member}
 use Rattle.serde_json.specs.Find.{as_i64, get}
 use Rattle.ob_base.specs.declared.cause.Cause.{Cause}
@@ -12,11 +9,8 @@ use Rattle.ob_base.specs.declared.plain.Plain.{Plain}
 use Rattle.ob_base.specs.declared.plain.PlainProp.{PlainProp}
 use Rattle.ob_base.specs.Integers.{is_in_range}
 use Rattle.ob_base.specs.PlainData.{elements, nesting, has_short_texts}
+use Rattle.ob_base.specs.Utf16.{utf16}
 use Rattle.ob_script.specs.Fields.{◌>>=◌, in_form}
-
--- the UTF-16 code units of a text in UTF-8 (ECMA-262, "The String Type")
-unfoldable pub utf16 : List ℕ → List ℕ
-utf16 text = flat_map encode_utf16 (chars text)
 
 abbrev pub integer_from : Option ℤ → Result Plain Cause
 integer_from None = Err NumberRange

@@ -4,7 +4,8 @@ ghost use Rattle.serde_json.specs.View.{view, number_view, items_view, members_v
 ghost use Rattle.ob_base.specs.PlainData.{are_all};
 ghost use Rattle.ob_script.specs.Forms.{is_text, is_readable, is_object, readable_prop};
 ghost use Rattle.ob_script.specs.Gives.{Gives};
-ghost use Rattle.ob_script.specs.Inputs.{utf16, integer_of, plain_of, plains_of, props_of, value_field, is_within_limits};
+ghost use Rattle.ob_base.specs.Utf16.{utf16};
+ghost use Rattle.ob_script.specs.Inputs.{integer_of, plain_of, plains_of, props_of, value_field, is_within_limits};
 ghost use Rattle.ob_script.specs.Texts.{utf8};
 
 use crate::ReadError;

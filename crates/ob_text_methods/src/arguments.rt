@@ -2,23 +2,12 @@
 ghost use Rattle.std.specs.Prelude.{◌≡◌, ◌≤◌, ℕ, pos, negsuc, IfSome, IfNone, Some, length};
 ghost use Rattle.std.specs.Option.{option_copied};
 ghost use Rattle.std.specs.List.{slice_range};
-ghost use Rattle.ob_values.specs.Effects.{argument, number_of, place_of, places_of};
+ghost use Rattle.ob_values.specs.Effects.{number_of};
 ghost use Rattle.ob_values.specs.TextMethods.{pad_of};
 ghost use Rattle.ob_values.specs.Operators.{text_in};
 ghost use Rattle.ob_values.specs.Values.{string_of};
 
 use ob_values::{Body, Regions, Value};
-use std::cmp;
-
-/// The argument at a place, from 0: a missing one is undefined.
-pub fn argument(args: &[Value], place: usize) -> Value
-    ensures { result ≡ argument args.now place }
-{
-    match args.get(place) {
-        Some(value) => *value,
-        None => Value::Undefined,
-    }
-}
 
 /// A value that is a number.
 pub fn number_of(value: Value) -> Option<i64>
@@ -67,42 +56,6 @@ pub fn pad_of(regions: &Regions, value: Value) -> Option<&[u16]>
         Value::Undefined => Some(&[32]),
         _ => text_in(regions, value),
     }
-}
-
-// A place that a number counts, from the end where it is negative, cut to the range.
-fn counted(len: usize, n: i64) -> usize
-    ensures place { place_of len 0 (Value.Int n) ≡ Some result }
-    ensures within { result ≤ len }
-{
-    if n < 0 {
-        len.saturating_sub(n.unsigned_abs() as usize)
-    } else {
-        cmp::min(n as usize, len)
-    }
-}
-
-// A place among so many: a negative one counts from the end, then it is cut to the range; undefined
-// is the default.
-fn place_of(len: usize, default: usize, value: Value) -> Option<usize>
-    requires { default ≤ len }
-    ensures place { result ≡ place_of len default value }
-    ensures within { IfSome result (λ place. place ≤ len) }
-{
-    match value {
-        Value::Undefined => Some(default),
-        Value::Int(n) => Some(counted(len, n)),
-        _ => None,
-    }
-}
-
-/// The places of the first two arguments among so many; none where one of them is no number.
-pub fn places_of(len: usize, args: &[Value]) -> Option<(usize, usize)>
-    ensures places { result ≡ places_of len args.now }
-    ensures within { IfSome result (λ places. places.1 ≤ len) }
-{
-    let from = place_of(len, 0, argument(args, 0))?;
-    let to = place_of(len, len, argument(args, 1))?;
-    Some((from, to))
 }
 
 /// The units from one place up to before another: none where that comes first.

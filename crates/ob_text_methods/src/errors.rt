@@ -9,10 +9,9 @@ ghost use Rattle.ob_values.specs.Operators.{AddsValue};
 ghost use Rattle.ob_values.specs.Sound.{AsText, AddsSound};
 ghost use Rattle.ob_values.specs.Store.{IsOpen, read_item, elements_in, with_new, next_ref, literal_ref, with_literal_in};
 
-use crate::arguments::argument;
 use crate::make::charge;
 use crate::values::written;
-use ob_values::{Body, Done, ErrorKind, OpError, Ref, RegionKey, Regions, Thrown, Value};
+use ob_values::{Body, Done, ErrorKind, OpError, Ref, RegionKey, Regions, Thrown, Value, argument};
 
 // The literal of these units in a region.
 fn literal(regions: &mut Regions, region: RegionKey, units: &[u16]) -> Result<Ref, OpError>

@@ -9,11 +9,11 @@ ghost use Rattle.ob_values.specs.TextMethods.{units_at, first_place, index_of_te
 ghost use Rattle.ob_values.specs.Operators.{text_in};
 ghost use Rattle.ob_values.specs.Store.{IsOpen, read_item};
 
-use crate::arguments::{argument, text_in};
+use crate::arguments::text_in;
 use crate::make::{charge, given};
 use crate::search::{place_of, shifts};
 use ob_base::NoMemory;
-use ob_values::{Done, OpError, Ref, RegionKey, Regions, Thrown, Value};
+use ob_values::{Done, OpError, Ref, RegionKey, Regions, Thrown, Value, argument};
 use std::alloc::Global;
 
 /// The first place at which a piece stands in a text, in time linear in the text, whatever the piece.

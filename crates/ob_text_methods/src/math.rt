@@ -7,10 +7,10 @@ ghost use Rattle.ob_values.specs.Effects.{answer_of, done_of, number_of, all_som
 ghost use Rattle.ob_values.specs.Functions.{math_min, math_max, math_abs, math_sign};
 ghost use Rattle.ob_values.specs.Store.{IsOpen};
 
-use crate::arguments::{argument, number_of};
+use crate::arguments::number_of;
 use crate::make::given;
 use ob_base::MAX_INTEGER;
-use ob_values::{Done, OpError, RegionKey, Regions, Thrown, Value};
+use ob_values::{Done, OpError, RegionKey, Regions, Thrown, Value, argument};
 use std::cmp;
 
 /// `Math.abs(n)` (ECMA-262, "Math.abs"). It takes no memory.

@@ -9,11 +9,11 @@ ghost use Rattle.ob_values.specs.Fixed.{KeepsFixed};
 ghost use Rattle.ob_values.specs.Operators.{AddsValue};
 ghost use Rattle.ob_values.specs.Store.{IsOpen, read_item, elements_in, text_cost};
 
-use crate::arguments::{argument, count_of, number_of, pad_of, places_of, range_of};
+use crate::arguments::{count_of, number_of, pad_of, range_of};
 use crate::make::{given, made, room_for};
 use crate::units::{copies, copy_of, unit_at, with_padding};
 use ob_base::Units;
-use ob_values::{Done, OpError, Ref, RegionKey, Regions, Thrown, Value};
+use ob_values::{Done, OpError, Ref, RegionKey, Regions, Thrown, Value, argument, places_of};
 use std::alloc::Global;
 
 // The units of the text that `slice` gives.

@@ -34,8 +34,9 @@ fn greater(one: u32, other: u32) -> u32
     if one < other { other } else { one }
 }
 
+/// How deep an expression is, or 2^32-1 where it is deeper.
 #[cycle(depth)]
-fn depth_of_expr(expr: &Expr) -> u32
+pub fn depth_of_expr(expr: &Expr) -> u32
     ensures { result ≡ min (expr_depth expr.now) u32.MAX }
 {
     match expr {
@@ -85,8 +86,9 @@ fn depth_of_expr(expr: &Expr) -> u32
     }
 }
 
+/// How deep the deepest of some expressions is, up to 2^32-1; 0 where there is none.
 #[cycle(depth)]
-fn depth_in_exprs(exprs: &[Expr]) -> u32
+pub fn depth_in_exprs(exprs: &[Expr]) -> u32
     ensures { result ≡ min (deepest (map expr_depth exprs.now)) u32.MAX }
 {
     let mut most = 0;

@@ -1,10 +1,8 @@
 -- The text of a value (this project; the escapes are ECMA-262's, "String Literals").
-use Rattle.std.specs.Prelude.{ℕ, zero, suc, ◌-◌, ◌/◌, ◌%◌, ◌==◌, ◌&&◌, ◌||◌, Bool, true, false, nat_lt, nat_le, List, [], ◌∷◌, ◌++◌, length, take, is_some, unwrap_or, Option, Some, None, codes, if◌then◌else◌}
-use Rattle.std.specs.List.{list_all}
+use Rattle.std.specs.Prelude.{ℕ, zero, suc, ◌-◌, ◌==◌, ◌&&◌, ◌||◌, Bool, true, false, nat_lt, nat_le, List, [], ◌∷◌, ◌++◌, length, take, is_some, unwrap_or, Option, Some, None, codes, if◌then◌else◌}
 use Rattle.std.specs.Option.{option_map, option_map_or}
 use Rattle.std.specs.Fmt.{signed_decimal}
-use Rattle.std.specs.Char.{encode_utf8, digit_char, is_ascii_digit, is_ascii_alphabetic}
-use Rattle.std.specs.Char.Utf16.{is_high_surrogate, is_low_surrogate, surrogate_pair_char}
+use Rattle.ob_base.specs.Escapes.{is_ascii_word, units_text}
 use Rattle.ob_base.specs.declared.limits.Limit.{Limit}
 use Rattle.ob_base.specs.declared.limits.Limit.TheVariants as L
 use Rattle.ob_items.specs.Bodies.{text_of}
@@ -24,36 +22,6 @@ use Rattle.ob_values.specs.Store.{Store, item_of, read_item}
 
 -- ---- texts
 
--- a unit below 0x20, 0x7f, a line or paragraph separator, or a surrogate
-abbrev pub is_hidden : ℕ → Bool
-is_hidden u = nat_lt u 0x20 || u == 0x7F || u == 0x2028 || u == 0x2029 || is_high_surrogate u || is_low_surrogate u
-
--- `\u` and four hexadecimal digits
-abbrev pub hex_escape : ℕ → List ℕ
-hex_escape u = 92 ∷ 117 ∷ digit_char (u / 0x1000) ∷ digit_char (u / 0x100 % 16) ∷ digit_char (u / 0x10 % 16) ∷ digit_char (u % 16) ∷ []
-
--- a hidden unit, or the character itself
-abbrev pub other_text : ℕ → List ℕ
-other_text u = if is_hidden u then hex_escape u else encode_utf8 u
-
--- a unit that is half of no pair; between quotes a quote is escaped too
-unfoldable pub unit_text : Bool → ℕ → List ℕ
-unit_text in_quotes u =
-    if (u == 34) && in_quotes then 92 ∷ 34 ∷ []
-    else if u == 92 then 92 ∷ 92 ∷ []
-    else if u == 10 then 92 ∷ 110 ∷ []
-    else if u == 13 then 92 ∷ 114 ∷ []
-    else if u == 9 then 92 ∷ 116 ∷ []
-    else other_text u
-
--- the units of a text, a pair of surrogates as the character that it stands for
-abbrev pub units_text : Bool → List ℕ → List ℕ
-units_text in_quotes [] = []
-units_text in_quotes (u ∷ []) = unit_text in_quotes u
-units_text in_quotes (u ∷ v ∷ us) =
-    if is_high_surrogate u && is_low_surrogate v then encode_utf8 (surrogate_pair_char u v) ++ units_text in_quotes us
-    else unit_text in_quotes u ++ units_text in_quotes (v ∷ us)
-
 -- what stands after a text of more than 100 units, which is cut after 100
 abbrev pub dots : List ℕ → List ℕ
 dots units = if nat_lt 100 (length units) then codes "..." else []
@@ -68,21 +36,9 @@ message_text units = units_text false (take 100 units) ++ dots units
 
 -- ---- keys
 
--- `$`, `_` and the letters of ASCII; and its digits too
-abbrev pub starts_ascii_name : ℕ → Bool
-starts_ascii_name u = u == 36 || u == 95 || is_ascii_alphabetic u
-
-abbrev pub continues_ascii_name : ℕ → Bool
-continues_ascii_name u = starts_ascii_name u || is_ascii_digit u
-
-abbrev pub begins_ascii_name : List ℕ → Bool
-begins_ascii_name [] = false
-begins_ascii_name (u ∷ us) = starts_ascii_name u
-
 -- an ASCII name or a reserved word (which is made as a name is), or an array index, of at most 100 units
 unfoldable pub is_plain_key : List ℕ → Bool
-is_plain_key units =
-    nat_le (length units) 100 && ((begins_ascii_name units && list_all continues_ascii_name units) || is_some (index_in units))
+is_plain_key units = nat_le (length units) 100 && (is_ascii_word units || is_some (index_in units))
 
 -- a plain key as it is, another in quotes
 unfoldable pub key_text : List ℕ → List ℕ

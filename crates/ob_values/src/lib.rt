@@ -1,6 +1,7 @@
 //! The store of values: regions of items, with all calls on them.
 #![tactic(auto)]
 
+mod arguments;
 mod charge;
 mod done;
 mod freeze;
@@ -10,6 +11,7 @@ mod read;
 mod regions;
 mod seen;
 
+pub use arguments::{argument, places_of};
 pub use done::Done;
 pub use ob_items::{
     AllocError, Body, Boxed, Catch, Closure, CodeKey, ErrorKind, Failure, Frame, HookError, Item,

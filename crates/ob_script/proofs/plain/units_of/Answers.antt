@@ -2,7 +2,7 @@ use Rattle.std.proofs.Common.{flat_map, sym, ap, ◌∙◌, map-id}
 use Rattle.std.proofs.lemmas.Iterator.{YieldsList-from_chars}
 use Rattle.std.proofs.lemmas.Iterator.Consumers.{YieldsList-end}
 use Rattle.std.specs.Char.Escape.{encode_utf16}
-use Rattle.ob_script.specs.Inputs.{utf16}
+use Rattle.ob_base.specs.Utf16.{utf16}
 use Rattle.ob_script.proofs.Utf16.{text_of_utf16, utf8_utf16}
 use Rattle.ob_script.proofs.plain.units_of.Goals as goal
 

@@ -1,0 +1,53 @@
+//! How the arguments of a call are read.
+ghost use Rattle.std.specs.Prelude.{◌≡◌, ◌≤◌, IfSome, Some};
+ghost use Rattle.ob_values.specs.Effects.{argument, place_of, places_of};
+
+use ob_items::Value;
+use std::cmp;
+
+/// The argument at a place, from 0: a missing one is undefined.
+pub fn argument(args: &[Value], place: usize) -> Value
+    ensures { result ≡ argument args.now place }
+{
+    match args.get(place) {
+        Some(value) => *value,
+        None => Value::Undefined,
+    }
+}
+
+// A place that a number counts, from the end where it is negative, cut to the range.
+fn counted(len: usize, n: i64) -> usize
+    ensures place { place_of len 0 (Value.Int n) ≡ Some result }
+    ensures within { result ≤ len }
+{
+    if n < 0 {
+        len.saturating_sub(n.unsigned_abs() as usize)
+    } else {
+        cmp::min(n as usize, len)
+    }
+}
+
+// A place among so many: a negative one counts from the end, then it is cut to the range; undefined
+// is the default.
+fn place_of(len: usize, default: usize, value: Value) -> Option<usize>
+    requires { default ≤ len }
+    ensures place { result ≡ place_of len default value }
+    ensures within { IfSome result (λ place. place ≤ len) }
+{
+    match value {
+        Value::Undefined => Some(default),
+        Value::Int(n) => Some(counted(len, n)),
+        _ => None,
+    }
+}
+
+/// The places of the first two arguments among so many, by default all; none where one of them is no
+/// number.
+pub fn places_of(len: usize, args: &[Value]) -> Option<(usize, usize)>
+    ensures places { result ≡ places_of len args.now }
+    ensures within { IfSome result (λ places. (places.0 ≤ len) × (places.1 ≤ len)) }
+{
+    let from = place_of(len, 0, argument(args, 0))?;
+    let to = place_of(len, len, argument(args, 1))?;
+    Some((from, to))
+}
