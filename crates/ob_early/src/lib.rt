@@ -9,6 +9,3 @@ mod walker;
 mod walks;
 
 pub use errors::is_free_of_errors;
-
-#[cfg(test)]
-mod tests;

@@ -19,6 +19,3 @@ pub use free::free_names;
 pub use local::local_names;
 pub use resolve::resolve_locals;
 pub use slots::{Binding, Slots, Use};
-
-#[cfg(test)]
-mod tests;

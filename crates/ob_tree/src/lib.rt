@@ -13,6 +13,3 @@ pub use ob_tree_types::{
     AssignOp, Boxed, CatchPart, CellTree, ChangeOp, Decl, DeclValue, Expr, FnBody, ForHead,
     Function, ImportSpec, ImportTree, LogicOp, PropNode, SpecForm, Stmt, UpdateOp,
 };
-
-#[cfg(test)]
-mod tests;

@@ -8,6 +8,3 @@ mod statements;
 mod trees;
 
 pub use prelude::{Prelude, prelude_tree};
-
-#[cfg(test)]
-mod tests;
