@@ -1,3 +1,5 @@
+pub mod AppendLemmas
 pub mod LoopLemmas
+pub mod PairLemmas
 pub mod ResultLemmas
 pub mod SpreadLemmas

@@ -1,36 +1,44 @@
 //! The methods that change an array.
-ghost use Rattle.std.specs.Prelude.{◌≡◌, ◌≢◌, ◌∷◌, [], Err, IsSome, IfOk, OnOk, OnErr, fold};
+ghost use Rattle.std.specs.Prelude.{◌≡◌, ◌≢◌, ◌+◌, ◌≤◌, ◌∷◌, [], false, Err, IsSome, IfOk, OnOk, OnErr, fold, length};
 ghost use Rattle.ob_items.specs.Bodies.{array_of};
 ghost use Rattle.ob_values.specs.ArrayMethods.{appended, push, pop, shift, reverse_in_place};
 ghost use Rattle.ob_values.specs.Effects.{Answers, Leaves, answer_of, done_of};
 ghost use Rattle.ob_values.specs.Fixed.{KeepsFixed};
 ghost use Rattle.ob_values.specs.Operators.{AddsValue};
 ghost use Rattle.ob_values.specs.Sound.{AsValue, KeepsSound, pointers_of};
-ghost use Rattle.ob_values.specs.Store.{read_item};
+ghost use Rattle.ob_values.specs.Store.{elements_in, is_frozen, read_item};
 ghost use Rattle.std.specs.Result.{result_map_both};
 
 use crate::arguments::elements_of;
 use ob_base::NoMemory;
-use ob_values::{Done, OpError, Ref, Regions, Thrown, Value};
+use ob_values::{Done, OpError, Ref, Regions, SetError, Thrown, Value};
 
-// Appends a value to an array; it answers `NoMemory` where it could not.
+// Appends a value to an array that is not frozen, where its region has room for it.
 fn append(regions: &mut Regions, receiver: Ref, value: Value) -> Result<(), NoMemory>
-    requires { IsSome (read_item array_of regions.old receiver) }
+    requires array { IsSome (read_item array_of regions.old receiver) }
+    requires thawed { is_frozen regions.old receiver ≡ false }
+    requires room { elements_in regions.old receiver.region + 1 ≤ 50000 }
     ensures ok { OnOk result (regions.new ≡ appended receiver regions.old value) }
+    ensures err { OnErr result (regions.new ≡ regions.old) }
     ensures array { IsSome (read_item array_of regions.new receiver) }
+    ensures thawed { OnOk result (is_frozen regions.new receiver ≡ false) }
+    ensures elements { OnOk result (elements_in regions.new receiver.region ≡ elements_in regions.old receiver.region + 1) }
     ensures sound { KeepsSound regions.old regions.new (pointers_of (value ∷ [])) }
     ensures fixed { KeepsFixed regions.old regions.new }
 {
     let place = elements_of(regions, receiver).len();
     match regions.set_index(receiver, place as i64, value) {
         Ok(()) => Ok(()),
-        Err(_) => Err(NoMemory),
+        Err(SetError::NoMemory) => Err(NoMemory),
+        Err(SetError::Frozen) | Err(SetError::PastEnd) | Err(SetError::HeapFull) => unreachable!(),
     }
 }
 
-// Appends values to an array; it answers `NoMemory` where it could not.
+// Appends values to an array that is not frozen, where its region has room for them.
 fn append_all(regions: &mut Regions, receiver: Ref, values: &[Value]) -> Result<(), NoMemory>
-    requires { IsSome (read_item array_of regions.old receiver) }
+    requires array { IsSome (read_item array_of regions.old receiver) }
+    requires thawed { is_frozen regions.old receiver ≡ false }
+    requires room { elements_in regions.old receiver.region + length values.now ≤ 50000 }
     ensures ok { OnOk result (regions.new ≡ fold (appended receiver) regions.old values.now) }
     ensures sound { KeepsSound regions.old regions.new (pointers_of values.now) }
     ensures fixed { KeepsFixed regions.old regions.new }

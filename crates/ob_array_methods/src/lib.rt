@@ -6,11 +6,13 @@ mod changes;
 mod copies;
 mod making;
 mod objects;
+mod pairs;
 mod searches;
 
 pub use changes::{pop, push, reverse, shift};
 pub use copies::{concat, slice};
 pub use objects::{has_own, keys, values};
+pub use pairs::entries;
 pub use searches::{includes, index_of, is_array};
 
 #[cfg(test)]

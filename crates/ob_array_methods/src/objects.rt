@@ -15,8 +15,8 @@ use ob_items::{Properties, integer_units};
 use ob_values::{Body, Done, OpError, RegionKey, Regions, Thrown, Value, argument};
 use std::alloc::Global;
 
-// The properties of a value that is an object.
-fn object_of(regions: &Regions, value: Value) -> Option<&Properties>
+/// The properties of a value that is an object.
+pub fn object_of(regions: &Regions, value: Value) -> Option<&Properties>
     ensures { option_copied result ≡ object_in regions.now value }
 {
     match value {

@@ -15,6 +15,8 @@ loop-value-preserved c =
     let within : c.loop-value.value-index < length c.args.values.now = omega arith in
     record {
       array = c.append.ensures.array;
+      thawed = c.in_ok-append.ensures.thawed;
+      elements = omega (arith, c.in_ok-append.ensures.elements, c.loop-value.invariant.elements);
       appended = append-more c.args.receiver c.args.values.now c.loop-value.value-index V.Undefined c.loop-value.regions c.append.new.regions within c.in_ok-append.ensures.ok
           ∙ c.loop-value.invariant.appended;
       sound = keeps-more c.args.regions.now c.loop-value.regions c.append.new.regions c.args.values.now _ (Contains-get_or c.args.values.now c.loop-value.value-index V.Undefined within)
