@@ -1,4 +1,5 @@
 pub mod ErrorLemmas
+pub mod JoinLemmas
 pub mod PartLemmas
 pub mod PieceLemmas
 pub mod PlaceLemmas

@@ -1,3 +1,4 @@
+pub mod Join
 pub mod Parts
 pub mod Room
 pub mod Search

@@ -1,5 +1,6 @@
 //! The methods of texts that look for a piece. Each takes a step for each 16 units of the text.
-ghost use Rattle.std.specs.Prelude.{◌≡◌, ◌+◌, ◌/◌, ◌<◌, ◌≤◌, ◌^◌, IfOk, length, IsSome, IsTrue, Err, is_ok, option_map, is_some};
+ghost use Rattle.ob_values.specs.Sound.{pointers_of};
+ghost use Rattle.std.specs.Prelude.{◌≡◌, ◌+◌, ◌/◌, ◌<◌, ◌≤◌, ◌^◌, IfOk, length, IsSome, IsTrue, Err, is_ok, option_map, is_some, ◌∷◌, []};
 ghost use Rattle.std.specs.Option.{ForSome};
 ghost use Rattle.std.specs.Result.{result_map_both};
 ghost use Rattle.ob_items.specs.Bodies.{text_of};
@@ -65,7 +66,8 @@ pub fn starts_with(
 ) -> Result<Done, OpError>
     requires open { IsOpen regions.now region }
     requires text { IsSome (read_item text_of regions.now receiver) }
-    ensures { result ≡ result_map_both done_of (λ e. e) (answer_of regions.now left (starts_with_text regions.now region (units_at regions.now receiver) args.now)) }
+    ensures answer { result ≡ result_map_both done_of (λ e. e) (answer_of regions.now left (starts_with_text regions.now region (units_at regions.now receiver) args.now)) }
+    ensures plain { IfOk result (λ done. pointers_of (done.value ∷ []) ≡ []) }
 {
     let units = regions.text(receiver);
     match text_in(regions, argument(args, 0)) {
@@ -91,7 +93,8 @@ pub fn ends_with(
 ) -> Result<Done, OpError>
     requires open { IsOpen regions.now region }
     requires text { IsSome (read_item text_of regions.now receiver) }
-    ensures { result ≡ result_map_both done_of (λ e. e) (answer_of regions.now left (ends_with_text regions.now region (units_at regions.now receiver) args.now)) }
+    ensures answer { result ≡ result_map_both done_of (λ e. e) (answer_of regions.now left (ends_with_text regions.now region (units_at regions.now receiver) args.now)) }
+    ensures plain { IfOk result (λ done. pointers_of (done.value ∷ []) ≡ []) }
 {
     let units = regions.text(receiver);
     match text_in(regions, argument(args, 0)) {
@@ -120,6 +123,7 @@ pub fn index_of(
     requires text { IsSome (read_item text_of regions.now receiver) }
     ensures answer { Answers result (answer_of regions.now left (index_of_text regions.now region (units_at regions.now receiver) args.now)) }
     ensures memory { result ≡ Err OpError.NoMemory → IsTrue (is_ok (answer_of regions.now left (index_of_text regions.now region (units_at regions.now receiver) args.now))) }
+    ensures plain { IfOk result (λ done. pointers_of (done.value ∷ []) ≡ []) }
 {
     let units = regions.text(receiver);
     match text_in(regions, argument(args, 0)) {
@@ -155,6 +159,7 @@ pub fn includes(
     requires text { IsSome (read_item text_of regions.now receiver) }
     ensures answer { Answers result (answer_of regions.now left (includes_text regions.now region (units_at regions.now receiver) args.now)) }
     ensures memory { result ≡ Err OpError.NoMemory → IsTrue (is_ok (answer_of regions.now left (includes_text regions.now region (units_at regions.now receiver) args.now))) }
+    ensures plain { IfOk result (λ done. pointers_of (done.value ∷ []) ≡ []) }
 {
     let units = regions.text(receiver);
     match text_in(regions, argument(args, 0)) {

@@ -1,9 +1,10 @@
-//! The methods of texts, and the functions of `Math`, `String` and the three errors.
+//! The methods of texts, `join` of arrays, and the functions of `Math`, `String` and the three errors.
 #![tactic(auto)]
 
 mod arguments;
 mod errors;
 mod finds;
+mod joins;
 mod make;
 mod math;
 mod parts;
@@ -15,6 +16,7 @@ mod values;
 
 pub use errors::error;
 pub use finds::{ends_with, includes, index_of, starts_with};
+pub use joins::join;
 pub use math::{abs, max, min, sign};
 pub use ob_values::Done;
 pub use splits::split;

@@ -57,7 +57,8 @@ pub fn given(
     left: u64,
 ) -> Result<Done, OpError>
     requires { IsOpen regions.now region }
-    ensures { result ≡ result_map_both done_of (λ e. e) (answer_of regions.now left (Ok (in_steps steps (gives regions.now region value)))) }
+    ensures answer { result ≡ result_map_both done_of (λ e. e) (answer_of regions.now left (Ok (in_steps steps (gives regions.now region value)))) }
+    ensures value { IfOk result (λ done. done.value ≡ value) }
 {
     charge(regions, region, 0, steps, left)?;
     Ok(Done {

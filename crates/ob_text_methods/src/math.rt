@@ -1,5 +1,6 @@
 //! The functions of `Math`.
-ghost use Rattle.std.specs.Prelude.{◌≡◌, unsigned_abs, fold};
+ghost use Rattle.ob_values.specs.Sound.{pointers_of};
+ghost use Rattle.std.specs.Prelude.{◌≡◌, unsigned_abs, fold, ◌∷◌, [], IfOk};
 ghost use Rattle.std.specs.Int.{int_min, int_max};
 ghost use Rattle.std.specs.Option.{option_map};
 ghost use Rattle.std.specs.Result.{result_map_both};
@@ -20,7 +21,8 @@ use std::cmp;
 /// range; `HeapFull` where the region has more than 50,000 elements.
 pub fn abs(regions: &Regions, region: RegionKey, args: &[Value], left: u64) -> Result<Done, OpError>
     requires { IsOpen regions.now region }
-    ensures { result ≡ result_map_both done_of (λ e. e) (answer_of regions.now left (math_abs regions.now region args.now)) }
+    ensures answer { result ≡ result_map_both done_of (λ e. e) (answer_of regions.now left (math_abs regions.now region args.now)) }
+    ensures plain { IfOk result (λ done. pointers_of (done.value ∷ []) ≡ []) }
 {
     match number_of(argument(args, 0)) {
         Some(n) => {
@@ -44,7 +46,8 @@ pub fn sign(
     left: u64,
 ) -> Result<Done, OpError>
     requires { IsOpen regions.now region }
-    ensures { result ≡ result_map_both done_of (λ e. e) (answer_of regions.now left (math_sign regions.now region args.now)) }
+    ensures answer { result ≡ result_map_both done_of (λ e. e) (answer_of regions.now left (math_sign regions.now region args.now)) }
+    ensures plain { IfOk result (λ done. pointers_of (done.value ∷ []) ≡ []) }
 {
     match number_of(argument(args, 0)) {
         Some(n) => given(regions, region, Value::Int(n.signum()), 0, left),
@@ -87,7 +90,8 @@ fn greatest_of(first: i64, values: &[Value]) -> Option<i64>
 /// `HeapFull` where the region has more than 50,000 elements already.
 pub fn min(regions: &Regions, region: RegionKey, args: &[Value], left: u64) -> Result<Done, OpError>
     requires { IsOpen regions.now region }
-    ensures { result ≡ result_map_both done_of (λ e. e) (answer_of regions.now left (math_min regions.now region args.now)) }
+    ensures answer { result ≡ result_map_both done_of (λ e. e) (answer_of regions.now left (math_min regions.now region args.now)) }
+    ensures plain { IfOk result (λ done. pointers_of (done.value ∷ []) ≡ []) }
 {
     match args {
         [] => Err(OpError::Throws(Thrown::BadCount)),
@@ -109,7 +113,8 @@ pub fn min(regions: &Regions, region: RegionKey, args: &[Value], left: u64) -> R
 /// As `min`.
 pub fn max(regions: &Regions, region: RegionKey, args: &[Value], left: u64) -> Result<Done, OpError>
     requires { IsOpen regions.now region }
-    ensures { result ≡ result_map_both done_of (λ e. e) (answer_of regions.now left (math_max regions.now region args.now)) }
+    ensures answer { result ≡ result_map_both done_of (λ e. e) (answer_of regions.now left (math_max regions.now region args.now)) }
+    ensures plain { IfOk result (λ done. pointers_of (done.value ∷ []) ≡ []) }
 {
     match args {
         [] => Err(OpError::Throws(Thrown::BadCount)),

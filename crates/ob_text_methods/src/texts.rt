@@ -1,5 +1,6 @@
 //! The methods of texts that make a text, and `charCodeAt`.
-ghost use Rattle.std.specs.Prelude.{◌≡◌, ◌++◌, ◌⊎◌, ◌+◌, ◌<◌, ◌≤◌, ◌^◌, [], IsSome, IsTrue, IfOk, OnErr, Err, is_ok, length};
+ghost use Rattle.ob_values.specs.Sound.{pointers_of};
+ghost use Rattle.std.specs.Prelude.{◌≡◌, ◌++◌, ◌⊎◌, ◌+◌, ◌<◌, ◌≤◌, ◌^◌, [], IsSome, IsTrue, IfOk, OnErr, Err, is_ok, length, ◌∷◌};
 ghost use Rattle.std.specs.List.{repeat};
 ghost use Rattle.std.specs.Result.{result_map_both};
 ghost use Rattle.ob_items.specs.Bodies.{text_of};
@@ -222,7 +223,8 @@ pub fn char_code_at(
 ) -> Result<Done, OpError>
     requires open { IsOpen regions.now region }
     requires text { IsSome (read_item text_of regions.now receiver) }
-    ensures { result ≡ result_map_both done_of (λ e. e) (answer_of regions.now left (char_code_at regions.now region (units_at regions.now receiver) args.now)) }
+    ensures answer { result ≡ result_map_both done_of (λ e. e) (answer_of regions.now left (char_code_at regions.now region (units_at regions.now receiver) args.now)) }
+    ensures plain { IfOk result (λ done. pointers_of (done.value ∷ []) ≡ []) }
 {
     let Some(number) = number_of(argument(args, 0)) else {
         return Err(OpError::Throws(Thrown::BadArgument));
