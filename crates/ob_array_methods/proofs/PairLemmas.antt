@@ -19,7 +19,7 @@ use Rattle.ob_values.specs.ObjectFunctions.{object_entries, object_in, pairs, wi
 use Rattle.ob_values.specs.Operators.{AddsValue, limited}
 use Rattle.ob_values.specs.Reach.{Reaches}
 use Rattle.ob_values.specs.Sound.{Pointer, AsValue, leads_to, pointers_of, IsSound, AddsItem}
-use Rattle.ob_values.specs.Store.{Store, IsOpen, elements_in, with_new, next_ref, literal_ref, with_literal_in}
+use Rattle.ob_values.specs.Store.{Store, IsOpen, elements_in, next_ref, literal_ref, with_literal_in}
 use Rattle.ob_values.specs.declared.done.Done.{Done}
 use Rattle.ob_values.proofs.EffectLemmas.{answers-refused}
 use Rattle.ob_values.proofs.PointerLemmas.{from_values, to_values}

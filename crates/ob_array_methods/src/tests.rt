@@ -1,5 +1,6 @@
 use crate::{
-    has_own, includes, index_of, is_array, keys, pop, push, reverse, shift, slice, values,
+    concat, entries, has_own, includes, index_of, is_array, keys, pop, push, reverse, shift, slice,
+    values,
 };
 use ob_base::NoMemory;
 use ob_items::units_of;
@@ -60,6 +61,21 @@ fn sliced(
 ) -> Result<Done, OpError> {
     if regions.is_open(key) {
         slice(alloc, regions, key, r, args, left)
+    } else {
+        Err(OpError::NoMemory)
+    }
+}
+
+fn concatenated(
+    alloc: Global,
+    regions: &mut Regions,
+    key: RegionKey,
+    r: Ref,
+    args: &[Value],
+    left: u64,
+) -> Result<Done, OpError> {
+    if regions.is_open(key) {
+        concat(alloc, regions, key, r, args, left)
     } else {
         Err(OpError::NoMemory)
     }
@@ -257,6 +273,70 @@ fn keys_are_listed(rt: HostRuntime) -> Result<(), Fail> {
         Ok(made) => match crate::arguments::array_of(&regions, made.value) {
             Some(listed) => assert!(rt; made.steps == 0 && listed == [one, b].as_slice()),
             None => assert!(rt; false),
+        },
+        Err(_) => assert!(rt; false),
+    }
+    Ok(())
+}
+
+#[test]
+fn arrays_are_put_together(rt: HostRuntime) -> Result<(), Fail> {
+    let alloc = rt.alloc();
+    let mut regions = Regions::new(alloc);
+    let key = regions.open()?;
+    let r = array(&mut regions, key, &[Value::Int(7), Value::Int(8)])?;
+    let empty = array(&mut regions, key, &[])?;
+    let rows: [(&[Value], &[i64]); 5] = [
+        (&[], &[7, 8]),
+        (&[Value::Int(9)], &[7, 8, 9]),
+        (&[Value::Ref(r), Value::Int(9)], &[7, 8, 7, 8, 9]),
+        (&[Value::Ref(empty)], &[7, 8]),
+        (
+            &[Value::Int(9), Value::Ref(empty), Value::Ref(r)],
+            &[7, 8, 9, 7, 8],
+        ),
+    ];
+    for (args, numbers) in rows {
+        match concatenated(alloc, &mut regions, key, r, args, 6) {
+            Ok(made) => assert!(rt; made.steps == 0 && are(&regions, made.value, numbers)),
+            Err(_) => assert!(rt; false),
+        }
+    }
+    let out = Err(OpError::StepsOut);
+    assert!(rt; concatenated(alloc, &mut regions, key, r, &[], 2) == out);
+    freeze(&mut regions, r)?;
+    assert!(rt; concatenated(alloc, &mut regions, key, r, &[], 3).is_ok());
+    Ok(())
+}
+
+fn is_pair(regions: &Regions, pair: Value, key: Value, value: Value) -> bool {
+    match crate::arguments::array_of(regions, pair) {
+        Some(values) => values == [key, value].as_slice(),
+        None => false,
+    }
+}
+
+#[test]
+fn entries_are_listed(rt: HostRuntime) -> Result<(), Fail> {
+    let alloc = rt.alloc();
+    let mut regions = Regions::new(alloc);
+    let key = regions.open()?;
+    let r = object(&mut regions, key)?;
+    for (name, number) in [("b", 1), ("1", 2)] {
+        put(alloc, &mut regions, r, name, Value::Int(number))?;
+    }
+    let one = text(alloc, &mut regions, key, "1")?;
+    let b = text(alloc, &mut regions, key, "b")?;
+    let args = [Value::Ref(r)];
+    assert!(rt; regions.is_open(key));
+    assert!(rt; entries(alloc, &mut regions, key, &args, 8) == Err(OpError::StepsOut));
+    match entries(alloc, &mut regions, key, &args, 9) {
+        Ok(made) => match crate::arguments::array_of(&regions, made.value) {
+            Some([first, second]) => {
+                assert!(rt; is_pair(&regions, *first, one, Value::Int(2)));
+                assert!(rt; is_pair(&regions, *second, b, Value::Int(1)));
+            }
+            _ => assert!(rt; false),
         },
         Err(_) => assert!(rt; false),
     }

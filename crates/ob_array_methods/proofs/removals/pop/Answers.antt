@@ -2,7 +2,7 @@ use Rattle.std.proofs.Common.{◌∙◌, ap, ◌-◌, length}
 use Rattle.std.specs.Prelude.{unwrap_or}
 use Rattle.ob_items.specs.declared.value.Value.TheVariants as V
 use Rattle.ob_array_methods.proofs.ResultLemmas.{adds-taken}
-use Rattle.ob_array_methods.proofs.changes.pop.Goals as goal
+use Rattle.ob_array_methods.proofs.removals.pop.Goals as goal
 
 pub returns-clause-sound : goal.returns-clause-sound
 returns-clause-sound c =

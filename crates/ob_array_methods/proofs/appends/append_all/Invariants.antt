@@ -5,7 +5,7 @@ use Rattle.ob_values.specs.ArrayMethods.{appended}
 use Rattle.ob_values.specs.Fixed.{KeepsFixed}
 use Rattle.ob_values.specs.Sound.{KeepsSound, pointers_of}
 use Rattle.ob_values.specs.Store.{elements_in, is_frozen, read_item}
-use Rattle.ob_array_methods.proofs.changes.append_all.Given as goal
+use Rattle.ob_array_methods.proofs.appends.append_all.Given as goal
 
 abbrev pub invariant-loop-value : goal.invariant-loop-value
 invariant-loop-value l = record {

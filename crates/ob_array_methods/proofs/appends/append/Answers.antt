@@ -5,7 +5,7 @@ use Rattle.std.specs.Int.RustNames.{unsigned_abs}
 use Rattle.ob_values.specs.ArrayMethods.{elements_at}
 use Rattle.ob_array_methods.proofs.AppendLemmas.{appended-thawed}
 use Rattle.ob_array_methods.proofs.LoopLemmas.{appended-is, element-array}
-use Rattle.ob_array_methods.proofs.changes.append.Goals as goal
+use Rattle.ob_array_methods.proofs.appends.append.Goals as goal
 
 pub returns-in-Ok-clause-ok : goal.returns-in-Ok-clause-ok
 returns-in-Ok-clause-ok c =

@@ -2,7 +2,7 @@ use Rattle.std.proofs.Common.{◌∙◌, ◌<◌, arith, length}
 use Rattle.ob_items.specs.declared.value.Value.TheVariants as V
 use Rattle.ob_values.proofs.FixedLemmas.{KeepsFixed-then}
 use Rattle.ob_array_methods.proofs.LoopLemmas.{keeps-more, append-more, Contains-get_or}
-use Rattle.ob_array_methods.proofs.changes.append_all.Goals as goal
+use Rattle.ob_array_methods.proofs.appends.append_all.Goals as goal
 
 pub returns-in_err-append-clause-sound : goal.returns-in_err-append-clause-sound
 returns-in_err-append-clause-sound c =
