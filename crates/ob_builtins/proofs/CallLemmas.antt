@@ -1,17 +1,15 @@
 -- What one call gives as a call by number.
-use Rattle.std.proofs.Common.{◌≡◌, ◌≢◌, ◌∙◌, ◌∷◌, ◌++◌, [], ℕ, ℤ, pos, negsuc, Bool, true, false, Option, Some, None, List, refl, ap, sym, subst, Result, Ok, Err, IfOk, OnOk, OnErr, inl, inr, nat_lt, ◌+◌, slice_get}
+use Rattle.std.proofs.Common.{◌≡◌, ◌≢◌, ◌∙◌, ◌∷◌, ◌++◌, [], ℕ, Bool, true, false, Option, Some, None, List, refl, ap, sym, subst, Result, Ok, Err, IfOk, OnErr, inl, inr, slice_get}
 use Rattle.std.proofs.lemmas.Bool.{true≢false}
 use Rattle.std.specs.List.{Contains}
 use Rattle.std.specs.Option.{option_map_or}
-use Rattle.std.specs.Prelude.{if◌then◌else◌, IfSome, IsSome, is_some, unwrap_or}
+use Rattle.std.specs.Prelude.{IfSome, IsSome, is_some, unwrap_or}
 use Rattle.ob_items.specs.declared.error.OpError.{OpError}
 use Rattle.ob_items.specs.declared.error.OpError.TheVariants as E
 use Rattle.ob_items.specs.declared.thrown.Thrown.{Thrown}
-use Rattle.ob_items.specs.declared.thrown.Thrown.TheVariants as T
 use Rattle.ob_items.specs.declared.value.Ref.{Ref}
 use Rattle.ob_items.specs.declared.value.RegionKey.{RegionKey}
 use Rattle.ob_items.specs.declared.value.Value.{Value}
-use Rattle.ob_items.specs.declared.value.Value.TheVariants as V
 use Rattle.ob_items.specs.Bodies.{array_of, text_of}
 use Rattle.ob_items.specs.Items.{at_item}
 use Rattle.ob_items.specs.Region.{Cells}
@@ -20,16 +18,12 @@ use Rattle.ob_items.specs.declared.item.Body.TheVariants as B
 use Rattle.ob_items.specs.declared.item.Item.{Item}
 use Rattle.ob_values.specs.BuiltinNames.{Builtin, builtin_numbered}
 use Rattle.ob_values.specs.Builtins.{array_method, text_method, method_of, method_call}
-use Rattle.ob_values.specs.Effects.{Effect, Answers, Leaves, answer_of, or_bad, number_of, all_some, argument}
+use Rattle.ob_values.specs.Effects.{Effect, Answers, Leaves, answer_of}
 use Rattle.ob_values.specs.Fixed.{KeepsFixed}
-use Rattle.ob_values.specs.Functions as functions
-use Rattle.ob_values.specs.ObjectFunctions as objects
-use Rattle.ob_values.specs.Operators.{AddsValue, text_in}
+use Rattle.ob_values.specs.Operators.{AddsValue}
 use Rattle.ob_values.specs.Sound.{Pointer, AsValue, KeepsSound, IsSound, pointers_of}
-use Rattle.ob_values.specs.Store.{Store, elements_in, item_of, read_item, region_of}
-use Rattle.ob_values.specs.TextMethods as texts
+use Rattle.ob_values.specs.Store.{Store, item_of, read_item, region_of}
 use Rattle.ob_values.specs.declared.done.Done.{Done}
-use Rattle.ob_values.proofs.FixedLemmas.{KeepsFixed-refl}
 use Rattle.ob_values.proofs.SeenLemmas.{Contains-none, Contains-cons, Contains-cons_cases, Contains-head}
 use Rattle.ob_builtins.specs.Calls.{CarriesOut, array_call, text_call}
 
@@ -47,10 +41,7 @@ receiver_among r used p h = elim (Contains-cons_cases (AsValue, r) [] p h) [
 pub args_among : (r : Ref) (used : List Pointer) (p : Pointer) → Contains used p → Contains ((AsValue, r) ∷ used) p
 args_among r used p h = Contains-cons (AsValue, r) used p h
 
-pub all_among : (used : List Pointer) (p : Pointer) → Contains used p → Contains used p
-all_among used p h = h
-
--- ---- calls that change the store
+-- ---- the whole of what a call leaves
 
 module _ (s n : Store) (own used : List Pointer) (within : (p : Pointer) → Contains own p → Contains used p) where
   adds_among : (result : Result Done OpError) → IfOk result (λ done. AddsValue s n own done.value) → IfOk result (λ done. AddsValue s n used done.value)
@@ -72,80 +63,6 @@ module _ (s n : Store) (own used : List Pointer) (within : (p : Pointer) → Con
   carried_plain left call result answer store err kept plain fixed =
       record { answer = answer; store = store; err = err; sound = adds_plain result kept plain; fixed = fixed }
 
--- ---- calls that leave the store as it is
-
-abbrev KeepsStore : Store → Result Effect Thrown → Type 0
-KeepsStore s call = IfOk call (λ e. e.store ≡ s)
-
-stays : (s : Store) (left : ℕ) (call : Result Effect Thrown) → KeepsStore s call → IfOk (answer_of s left call) (λ e. s ≡ e.store)
-stays s left (Err t) keeps = tt
-stays s left (Ok e) keeps = by (nat_lt 50000 (elements_in s e.region + e.elements)) (nat_lt left (e.elements + e.steps))
-  where
-    by : (full out : Bool) → IfOk (if full then Err E.HeapFull else if out then Err E.StepsOut else Ok e) (λ (f : Effect). s ≡ f.store)
-    by true out = tt
-    by false true = tt
-    by false false = sym keeps
-
-on_ok : {P : Type 0} (result : Result Done OpError) → P → OnOk result P
-on_ok (Ok done) p = p
-on_ok (Err e) p = tt
-
-on_err : {P : Type 0} (result : Result Done OpError) → P → OnErr result P
-on_err (Ok done) p = tt
-on_err (Err e) p = p
-
-pub asked : (s : Store) (used : List Pointer) (left : ℕ) (call : Result Effect Thrown) (result : Result Done OpError) → Answers result (answer_of s left call) → KeepsStore s call
-    → IfOk result (λ done. pointers_of (done.value ∷ []) ≡ []) → CarriesOut s s left used call result
-asked s used left call result answer keeps plain = record {
-  answer = answer;
-  store = on_ok result (stays s left call keeps);
-  err = λ _. on_err result refl;
-  sound = sound result plain;
-  fixed = KeepsFixed-refl s s refl;
-}
-  where
-    sound : (result : Result Done OpError) → IfOk result (λ done. pointers_of (done.value ∷ []) ≡ []) → IfOk result (λ done. AddsValue s s used done.value)
-    sound (Ok done) p = λ roots reached held. subst (λ ps. IsSound s (ps ++ roots)) (sym p) held
-    sound (Err e) p = tt
-
-or_bad_keeps : {X : Type 0} (s : Store) (o : Option X) (f : X → Result Effect Thrown) → ((x : X) → KeepsStore s (f x)) → KeepsStore s (or_bad o f)
-or_bad_keeps s None f h = tt
-or_bad_keeps s (Some x) f h = h x
-
-pub searches_keeps : (s : Store) (region : RegionKey) (units : List ℕ) (args : List Value) (f : List ℕ → Value) → KeepsStore s (texts.searches s region units args f)
-searches_keeps s region units args f = or_bad_keeps s (text_in s (argument args 0)) _ (λ piece. refl)
-
-unit_at_keeps : (s : Store) (region : RegionKey) (units : List ℕ) (n : ℤ) → KeepsStore s (texts.unit_at s region units n)
-unit_at_keeps s region units (pos k) = by (slice_get units k)
-  where
-    by : (o : Option ℕ) → KeepsStore s (option_map_or (λ unit. Ok (record { value = V.Int (pos unit); store = s; region = region; elements = 0; steps = 0 })) o (Err T.PastEnd))
-    by None = tt
-    by (Some unit) = refl
-unit_at_keeps s region units (negsuc k) = tt
-
-pub char_code_keeps : (s : Store) (region : RegionKey) (units : List ℕ) (args : List Value) → KeepsStore s (texts.char_code_at s region units args)
-char_code_keeps s region units args = or_bad_keeps s (number_of (argument args 0)) _ (unit_at_keeps s region units)
-
-best_keeps : (s : Store) (region : RegionKey) (best : ℤ → ℤ → ℤ) (ns : List ℤ) → KeepsStore s (functions.best_of s region best ns)
-best_keeps s region best [] = tt
-best_keeps s region best (n ∷ ns) = refl
-
-pub extreme_keeps : (s : Store) (region : RegionKey) (args : List Value) (best : ℤ → ℤ → ℤ) → KeepsStore s (or_bad (all_some number_of args) (functions.best_of s region best))
-extreme_keeps s region args best = or_bad_keeps s (all_some number_of args) _ (best_keeps s region best)
-
-number_keeps : (s : Store) (region : RegionKey) (x : Result ℤ Thrown) → KeepsStore s (functions.gives_number s region x)
-number_keeps s region (Ok n) = refl
-number_keeps s region (Err t) = tt
-
-pub abs_keeps : (s : Store) (region : RegionKey) (args : List Value) → KeepsStore s (functions.math_abs s region args)
-abs_keeps s region args = or_bad_keeps s (number_of (argument args 0)) _ (λ n. number_keeps s region _)
-
-pub sign_keeps : (s : Store) (region : RegionKey) (args : List Value) → KeepsStore s (functions.math_sign s region args)
-sign_keeps s region args = or_bad_keeps s (number_of (argument args 0)) _ (λ n. refl)
-
-pub has_own_keeps : (s : Store) (region : RegionKey) (args : List Value) → KeepsStore s (objects.has_own s region args)
-has_own_keeps s region args = or_bad_keeps s (objects.object_in s (argument args 0)) _ (λ o. or_bad_keeps s (objects.key_in s (argument args 1)) _ (λ key. refl))
-
 -- ---- a call by number
 
 pub at_number : (f : ℕ → Option (Result Effect Thrown)) (n k : ℕ) (call : Result Effect Thrown) (P : Result Effect Thrown → Type 0) → n ≡ k → f k ≡ Some call → P call → IfSome (f n) P
@@ -155,10 +72,6 @@ module _ (s n : Store) (left : ℕ) (used : List Pointer) (result : Result Done 
   pub answers_of : (o : Option (Result Effect Thrown)) → IfSome o (λ call. CarriesOut s n left used call result) → IfSome o (λ call. Answers result (answer_of s left call))
   answers_of None h = tt
   answers_of (Some call) h = h.answer
-
-  pub leaves_of : (o : Option (Result Effect Thrown)) → IfSome o (λ call. CarriesOut s n left used call result) → IfSome o (λ call. Leaves result (answer_of s left call) n)
-  leaves_of None h = tt
-  leaves_of (Some call) h = h.store
 
   pub fixed_of : (o : Option (Result Effect Thrown)) → IsSome o → IfSome o (λ call. CarriesOut s n left used call result) → KeepsFixed s n
   fixed_of None some h = absurd cc

@@ -90,11 +90,6 @@ array_number s region n r args h = is_within 9 18 n (sym (array_range s region n
 pub text_number : (s : Store) (region : RegionKey) (n : ℕ) (r : Ref) (args : List Value) → IsSome (text_call s region n r args) → (24 ≤ n) × (n < 33)
 text_number s region n r args h = is_within 24 33 n (sym (text_range s region n r args) ∙ h)
 
-either : (a b : Bool) → a || b ≡ true → b ≡ false → a ≡ true
-either true b h e = refl
-either false true h e = cc
-either false false h e = h
-
 -- above 6 the numbers of functions go from 35 to 43
 pub function_number : (s : Store) (region : RegionKey) (n : ℕ) (args : List Value) → IsSome (function_call s region n args) → 7 ≤ n → (35 ≤ n) × (n < 44)
 function_number s region n args h l =
@@ -103,11 +98,6 @@ function_number s region n args h l =
     later : (a b : Bool) → a || b ≡ true → a ≡ false → b ≡ true
     later true b e f = cc
     later false b e f = e
-
--- and at most 6 from 3 on
-pub name_number : (s : Store) (region : RegionKey) (n : ℕ) (args : List Value) → IsSome (function_call s region n args) → n ≤ 6 → 3 ≤ n
-name_number s region n args h l =
-    (is_within 3 7 n (either (within 3 7 n) (within 35 44 n) (sym (function_range s region n args) ∙ h) (grind (arith, nat_tests)))).0
 
 -- ---- the tests of numbers
 

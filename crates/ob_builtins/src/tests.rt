@@ -55,6 +55,8 @@ fn functions_have_numbers(rt: HostRuntime) -> Result<(), Fail> {
 /// A receiver or an argument of a call.
 #[derive(Clone, Copy)]
 enum Given {
+    /// There is none.
+    Missing,
     Undefined,
     Null,
     Int(i64),
@@ -67,7 +69,7 @@ enum Given {
     Function,
 }
 
-use Given::{Function, Int, Mixed, Null, Numbers, Of, Properties, Undefined};
+use Given::{Function, Int, Missing, Mixed, Null, Numbers, Of, Properties, Undefined};
 
 fn text_item(regions: &mut Regions, key: RegionKey, units: Units) -> Result<Ref, AllocError> {
     if regions.is_open(key) {
@@ -156,7 +158,7 @@ fn value_of(
     given: Given,
 ) -> Result<Value, Fail> {
     Ok(match given {
-        Given::Undefined => Value::Undefined,
+        Given::Missing | Given::Undefined => Value::Undefined,
         Given::Null => Value::Null,
         Given::Int(number) => Value::Int(number),
         Given::Of(units) => text(alloc, regions, key, units)?,
@@ -167,6 +169,7 @@ fn value_of(
     })
 }
 
+// The values up to the first that is missing.
 fn values_of(
     alloc: Global,
     regions: &mut Regions,
@@ -175,6 +178,9 @@ fn values_of(
 ) -> Result<Vec<Value>, Fail> {
     let mut values = Vec::with_capacity(alloc, given.len())?;
     for one in given {
+        if matches!(one, Given::Missing) {
+            return Ok(values);
+        }
         let value = value_of(alloc, regions, key, *one)?;
         values.push(value)?;
     }
@@ -371,51 +377,55 @@ fn function_answer(alloc: Global, number: u16, args: &[Given], left: u64) -> Res
 #[test]
 fn arrays_answer_by_name(rt: HostRuntime) -> Result<(), Fail> {
     let row = Numbers(&[7, 8, 9]);
-    let rows: [(&str, &[Given], &str); 33] = [
-        ("push", &[], "3 0 0"),
-        ("push", &[Int(1)], "4 1 0"),
-        ("push", &[Int(1), Numbers(&[2, 3]), Null], "6 3 0"),
-        ("pop", &[], "9 0 0"),
-        ("pop", &[Int(1)], "9 0 0"),
-        ("shift", &[], "7 0 3"),
-        ("reverse", &[], "|9|8|7 0 3"),
-        ("slice", &[], "|7|8|9 4 0"),
-        ("slice", &[Int(1)], "|8|9 3 0"),
-        ("slice", &[Int(-2)], "|8|9 3 0"),
-        ("slice", &[Int(1), Int(2)], "|8 2 0"),
-        ("slice", &[Int(-9), Int(-1)], "|7|8 3 0"),
-        ("slice", &[Undefined, Int(2)], "|7|8 3 0"),
-        ("slice", &[Int(2), Int(1)], " 1 0"),
-        ("slice", &[Int(0), Int(1), Null], "|7 2 0"),
-        ("slice", &[Null], "bad argument"),
-        ("slice", &[Int(0), Of("1")], "bad argument"),
-        ("concat", &[], "|7|8|9 4 0"),
-        ("concat", &[Int(1)], "|7|8|9|1 5 0"),
-        ("concat", &[Numbers(&[1, 2]), Of("x")], "|7|8|9|1|2|x 7 0"),
+    let rows = [
+        ("push", [Missing, Missing, Missing], "3 0 0"),
+        ("push", [Int(1), Missing, Missing], "4 1 0"),
+        ("push", [Int(1), Numbers(&[2, 3]), Null], "6 3 0"),
+        ("pop", [Missing, Missing, Missing], "9 0 0"),
+        ("pop", [Int(1), Missing, Missing], "9 0 0"),
+        ("shift", [Missing, Missing, Missing], "7 0 3"),
+        ("reverse", [Missing, Missing, Missing], "|9|8|7 0 3"),
+        ("slice", [Missing, Missing, Missing], "|7|8|9 4 0"),
+        ("slice", [Int(1), Missing, Missing], "|8|9 3 0"),
+        ("slice", [Int(-2), Missing, Missing], "|8|9 3 0"),
+        ("slice", [Int(1), Int(2), Missing], "|8 2 0"),
+        ("slice", [Int(-9), Int(-1), Missing], "|7|8 3 0"),
+        ("slice", [Undefined, Int(2), Missing], "|7|8 3 0"),
+        ("slice", [Int(2), Int(1), Missing], " 1 0"),
+        ("slice", [Int(0), Int(1), Null], "|7 2 0"),
+        ("slice", [Null, Missing, Missing], "bad argument"),
+        ("slice", [Int(0), Of("1"), Missing], "bad argument"),
+        ("concat", [Missing, Missing, Missing], "|7|8|9 4 0"),
+        ("concat", [Int(1), Missing, Missing], "|7|8|9|1 5 0"),
         (
             "concat",
-            &[Numbers(&[]), Null, Numbers(&[1])],
+            [Numbers(&[1, 2]), Of("x"), Missing],
+            "|7|8|9|1|2|x 7 0",
+        ),
+        (
+            "concat",
+            [Numbers(&[]), Null, Numbers(&[1])],
             "|7|8|9|null|1 6 0",
         ),
-        ("indexOf", &[Int(9)], "2 0 3"),
-        ("indexOf", &[], "-1 0 3"),
-        ("indexOf", &[Int(7), Int(1)], "0 0 3"),
-        ("includes", &[Int(8)], "true 0 3"),
-        ("includes", &[Of("8")], "false 0 3"),
-        ("join", &[], "7,8,9 1 3"),
-        ("join", &[Undefined], "7,8,9 1 3"),
-        ("join", &[Of("")], "789 1 3"),
+        ("indexOf", [Int(9), Missing, Missing], "2 0 3"),
+        ("indexOf", [Missing, Missing, Missing], "-1 0 3"),
+        ("indexOf", [Int(7), Int(1), Missing], "0 0 3"),
+        ("includes", [Int(8), Missing, Missing], "true 0 3"),
+        ("includes", [Of("8"), Missing, Missing], "false 0 3"),
+        ("join", [Missing, Missing, Missing], "7,8,9 1 3"),
+        ("join", [Undefined, Missing, Missing], "7,8,9 1 3"),
+        ("join", [Of(""), Missing, Missing], "789 1 3"),
         (
             "join",
-            &[Of(" and so on "), Int(1)],
+            [Of(" and so on "), Int(1), Missing],
             "7 and so on 8 and so on 9 2 3",
         ),
-        ("join", &[Null], "bad argument"),
-        ("join", &[Int(0)], "bad argument"),
-        ("map", &[Function], "memory"),
+        ("join", [Null, Missing, Missing], "bad argument"),
+        ("join", [Int(0), Missing, Missing], "bad argument"),
+        ("map", [Function, Missing, Missing], "memory"),
     ];
     for (name, args, expected) in rows {
-        let found = method_answer(rt.alloc(), row, name, args, 100_000)?;
+        let found = method_answer(rt.alloc(), row, name, &args, 100_000)?;
         assert_eq!(rt; found.as_str(), expected);
     }
     Ok(())
@@ -423,37 +433,157 @@ fn arrays_answer_by_name(rt: HostRuntime) -> Result<(), Fail> {
 
 #[test]
 fn other_receivers_answer_by_name(rt: HostRuntime) -> Result<(), Fail> {
-    let rows: [(Given, &str, &[Given], u64, &str); 27] = [
-        (Numbers(&[]), "pop", &[], 0, "undefined 0 0"),
-        (Numbers(&[]), "shift", &[], 0, "undefined 0 0"),
-        (Numbers(&[]), "reverse", &[], 0, " 0 0"),
-        (Numbers(&[]), "join", &[], 1, " 1 0"),
-        (Numbers(&[]), "join", &[], 0, "steps"),
-        (Numbers(&[-5]), "join", &[Of(";")], 2, "-5 1 1"),
-        (Numbers(&[-5]), "join", &[Of(";")], 1, "steps"),
-        (Mixed, "join", &[], 6, "1,,true,,x 1 5"),
-        (Mixed, "join", &[], 5, "steps"),
-        (Mixed, "join", &[Of("ab")], 99, "1ababtrueababx 1 5"),
-        (Mixed, "indexOf", &[Of("x")], 99, "4 0 5"),
-        (Mixed, "includes", &[], 99, "true 0 5"),
-        (Mixed, "includes", &[], 4, "steps"),
-        (Numbers(&[1, 2]), "push", &[Int(3), Int(4)], 1, "steps"),
-        (Numbers(&[1, 2]), "shift", &[], 1, "steps"),
-        (Numbers(&[1, 2]), "concat", &[Int(3)], 3, "steps"),
-        (Of("abc"), "slice", &[Int(-2), Int(3)], 1, "bc 1 0"),
-        (Of("abc"), "repeat", &[Int(2)], 1, "abcabc 1 0"),
-        (Of("abc"), "padStart", &[Int(5)], 1, "  abc 1 0"),
-        (Of("abc"), "indexOf", &[Of("c")], 1, "2 0 1"),
-        (Of("abc"), "includes", &[Of("cc")], 1, "false 0 1"),
-        (Of("abc"), "startsWith", &[Of("ab")], 1, "true 0 1"),
-        (Of("abc"), "endsWith", &[Of("bc")], 1, "true 0 1"),
-        (Of("a-b"), "split", &[Of("-")], 5, "|a|b 5 0"),
-        (Of("a-b"), "split", &[Of("-")], 4, "steps"),
-        (Of("abc"), "charCodeAt", &[Int(1)], 0, "98 0 0"),
-        (Of("abc"), "push", &[Int(1)], 9, "memory"),
+    let rows = [
+        (
+            Numbers(&[]),
+            "pop",
+            [Missing, Missing, Missing],
+            0,
+            "undefined 0 0",
+        ),
+        (
+            Numbers(&[]),
+            "shift",
+            [Missing, Missing, Missing],
+            0,
+            "undefined 0 0",
+        ),
+        (
+            Numbers(&[]),
+            "reverse",
+            [Missing, Missing, Missing],
+            0,
+            " 0 0",
+        ),
+        (Numbers(&[]), "join", [Missing, Missing, Missing], 1, " 1 0"),
+        (
+            Numbers(&[]),
+            "join",
+            [Missing, Missing, Missing],
+            0,
+            "steps",
+        ),
+        (
+            Numbers(&[-5]),
+            "join",
+            [Of(";"), Missing, Missing],
+            2,
+            "-5 1 1",
+        ),
+        (
+            Numbers(&[-5]),
+            "join",
+            [Of(";"), Missing, Missing],
+            1,
+            "steps",
+        ),
+        (
+            Mixed,
+            "join",
+            [Missing, Missing, Missing],
+            6,
+            "1,,true,,x 1 5",
+        ),
+        (Mixed, "join", [Missing, Missing, Missing], 5, "steps"),
+        (
+            Mixed,
+            "join",
+            [Of("ab"), Missing, Missing],
+            99,
+            "1ababtrueababx 1 5",
+        ),
+        (Mixed, "indexOf", [Of("x"), Missing, Missing], 99, "4 0 5"),
+        (
+            Mixed,
+            "includes",
+            [Missing, Missing, Missing],
+            99,
+            "true 0 5",
+        ),
+        (Mixed, "includes", [Missing, Missing, Missing], 4, "steps"),
+        (
+            Numbers(&[1, 2]),
+            "push",
+            [Int(3), Int(4), Missing],
+            1,
+            "steps",
+        ),
+        (
+            Numbers(&[1, 2]),
+            "shift",
+            [Missing, Missing, Missing],
+            1,
+            "steps",
+        ),
+        (
+            Numbers(&[1, 2]),
+            "concat",
+            [Int(3), Missing, Missing],
+            3,
+            "steps",
+        ),
+        (Of("abc"), "slice", [Int(-2), Int(3), Missing], 1, "bc 1 0"),
+        (
+            Of("abc"),
+            "repeat",
+            [Int(2), Missing, Missing],
+            1,
+            "abcabc 1 0",
+        ),
+        (
+            Of("abc"),
+            "padStart",
+            [Int(5), Missing, Missing],
+            1,
+            "  abc 1 0",
+        ),
+        (
+            Of("abc"),
+            "indexOf",
+            [Of("c"), Missing, Missing],
+            1,
+            "2 0 1",
+        ),
+        (
+            Of("abc"),
+            "includes",
+            [Of("cc"), Missing, Missing],
+            1,
+            "false 0 1",
+        ),
+        (
+            Of("abc"),
+            "startsWith",
+            [Of("ab"), Missing, Missing],
+            1,
+            "true 0 1",
+        ),
+        (
+            Of("abc"),
+            "endsWith",
+            [Of("bc"), Missing, Missing],
+            1,
+            "true 0 1",
+        ),
+        (
+            Of("a-b"),
+            "split",
+            [Of("-"), Missing, Missing],
+            5,
+            "|a|b 5 0",
+        ),
+        (Of("a-b"), "split", [Of("-"), Missing, Missing], 4, "steps"),
+        (
+            Of("abc"),
+            "charCodeAt",
+            [Int(1), Missing, Missing],
+            0,
+            "98 0 0",
+        ),
+        (Of("abc"), "push", [Int(1), Missing, Missing], 9, "memory"),
     ];
     for (receiver, name, args, left, expected) in rows {
-        let found = method_answer(rt.alloc(), receiver, name, args, left)?;
+        let found = method_answer(rt.alloc(), receiver, name, &args, left)?;
         assert_eq!(rt; found.as_str(), expected);
     }
     Ok(())
@@ -461,38 +591,42 @@ fn other_receivers_answer_by_name(rt: HostRuntime) -> Result<(), Fail> {
 
 #[test]
 fn functions_answer_by_number(rt: HostRuntime) -> Result<(), Fail> {
-    let rows: [(u16, &[Given], &str); 28] = [
-        (0, &[], "memory"),
-        (3, &[Int(12)], "12 1 0"),
-        (3, &[], "undefined 1 0"),
-        (3, &[Properties], "bad argument"),
-        (4, &[Of("m")], "error m 1 0"),
-        (5, &[Int(5), Int(6)], "error 5 1 0"),
-        (6, &[], "error  1 0"),
-        (7, &[Null], "memory"),
-        (9, &[Null], "memory"),
-        (34, &[Null], "memory"),
-        (35, &[Int(2), Int(-1), Int(3)], "-1 0 0"),
-        (36, &[Int(2), Int(-1), Int(3)], "3 0 0"),
-        (36, &[], "bad count"),
-        (37, &[Int(-4)], "4 0 0"),
-        (38, &[Int(-4)], "-1 0 0"),
-        (38, &[Of("1")], "bad argument"),
-        (39, &[Properties], "|1|b|a 4 0"),
-        (39, &[Null], "bad argument"),
-        (40, &[Properties], "|6|5|7 4 0"),
-        (40, &[Numbers(&[1])], "bad argument"),
-        (41, &[Properties], "|[ 1 6]|[ b 5]|[ a 7] 13 0"),
-        (41, &[Of("ab")], "bad argument"),
-        (41, &[], "bad argument"),
-        (42, &[Properties, Int(1)], "true 0 0"),
-        (42, &[Properties, Of("c"), Null], "false 0 0"),
-        (42, &[Properties], "bad argument"),
-        (43, &[Mixed], "true 0 0"),
-        (44, &[Mixed], "memory"),
+    let rows = [
+        (0, [Missing, Missing, Missing], "memory"),
+        (3, [Int(12), Missing, Missing], "12 1 0"),
+        (3, [Missing, Missing, Missing], "undefined 1 0"),
+        (3, [Properties, Missing, Missing], "bad argument"),
+        (4, [Of("m"), Missing, Missing], "error m 1 0"),
+        (5, [Int(5), Int(6), Missing], "error 5 1 0"),
+        (6, [Missing, Missing, Missing], "error  1 0"),
+        (7, [Null, Missing, Missing], "memory"),
+        (9, [Null, Missing, Missing], "memory"),
+        (34, [Null, Missing, Missing], "memory"),
+        (35, [Int(2), Int(-1), Int(3)], "-1 0 0"),
+        (36, [Int(2), Int(-1), Int(3)], "3 0 0"),
+        (36, [Missing, Missing, Missing], "bad count"),
+        (37, [Int(-4), Missing, Missing], "4 0 0"),
+        (38, [Int(-4), Missing, Missing], "-1 0 0"),
+        (38, [Of("1"), Missing, Missing], "bad argument"),
+        (39, [Properties, Missing, Missing], "|1|b|a 4 0"),
+        (39, [Null, Missing, Missing], "bad argument"),
+        (40, [Properties, Missing, Missing], "|6|5|7 4 0"),
+        (40, [Numbers(&[1]), Missing, Missing], "bad argument"),
+        (
+            41,
+            [Properties, Missing, Missing],
+            "|[ 1 6]|[ b 5]|[ a 7] 13 0",
+        ),
+        (41, [Of("ab"), Missing, Missing], "bad argument"),
+        (41, [Missing, Missing, Missing], "bad argument"),
+        (42, [Properties, Int(1), Missing], "true 0 0"),
+        (42, [Properties, Of("c"), Null], "false 0 0"),
+        (42, [Properties, Missing, Missing], "bad argument"),
+        (43, [Mixed, Missing, Missing], "true 0 0"),
+        (44, [Mixed, Missing, Missing], "memory"),
     ];
     for (number, args, expected) in rows {
-        let found = function_answer(rt.alloc(), number, args, 100_000)?;
+        let found = function_answer(rt.alloc(), number, &args, 100_000)?;
         assert_eq!(rt; found.as_str(), expected);
     }
     let entries = function_answer(rt.alloc(), 41, &[Properties], 12)?;
