@@ -1,0 +1,23 @@
+mod Placed
+mod Rows
+mod Valid
+mod Encoding
+mod Words
+mod Rules
+mod Operators
+mod Expressions
+mod Listed
+mod Functions
+mod Declarations
+mod Statements
+mod Keys
+mod Printing
+mod Cutting
+mod CutMarks
+mod CutTexts
+mod Lexed
+mod Source
+mod Nesting
+mod Opening
+mod Cells
+pub mod Again
