@@ -1,1 +1,2 @@
+pub mod CommaLists
 pub mod ParameterNames

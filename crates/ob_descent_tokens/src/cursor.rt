@@ -4,6 +4,7 @@ ghost use Rattle.std.specs.Prelude.{◌≡◌, ◌∷◌, [], Some, None, MatchO
 ghost use Rattle.ob_grammar.specs.Taking as spec;
 ghost use Rattle.ob_grammar.specs.Marks as marks;
 ghost use Rattle.ob_descent_tokens.specs.Gives.{Gives, Takes};
+ghost use Rattle.ob_descent_tokens.specs.Lists.{list_goes_on};
 ghost use Rattle.ob_descent_tokens.specs.Tests.{test_of};
 
 use crate::ParseError;
@@ -141,6 +142,22 @@ impl<'a> Cursor<'a> {
             Some(name) => Ok(name.copy(alloc)?),
             None => Err(ParseError::Syntax),
         }
+    }
+
+    /// Whether a list goes on behind an item: takes a comma, or the mark that closes the list.
+    pub fn goes_on(&mut self, closes: Expected) -> Result<bool, ParseError>
+        ensures { Gives (list_goes_on (test_of closes) self.old) result self.new }
+    {
+        let Some(token) = self.next() else {
+            return Err(ParseError::Syntax);
+        };
+        if closes.is(&token.kind) {
+            return Ok(false);
+        }
+        if Expected::Comma.is(&token.kind) {
+            return Ok(true);
+        }
+        Err(ParseError::Syntax)
     }
 
     /// Whether a token comes next with no line break before it.
