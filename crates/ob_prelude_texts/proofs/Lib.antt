@@ -1,0 +1,9 @@
+pub mod Checking
+pub mod CopiedParts
+pub mod CopiedTrees
+pub mod Deriving
+pub mod Lexing
+pub mod Reading
+pub mod SameTrees
+pub mod Texts
+pub mod Tokens
