@@ -3,7 +3,6 @@ use Rattle.std.proofs.Common.{◌≡◌, ℕ, ◌+◌, false, List, [], ◌∷�
 use Rattle.std.proofs.lemmas.List.{append-nil}
 use Rattle.std.specs.Prelude.{codes}
 use Rattle.ob_base.specs.declared.reserved.ReservedWord.TheVariants as word
-use Rattle.ob_lex.specs.declared.punctuator.Punctuator.TheVariants as mark
 use Rattle.ob_lex.specs.declared.token.Token.{Token}
 use Rattle.ob_lex.specs.declared.token.TokenKind.TheVariants as kind
 use Rattle.ob_tree_types.specs.declared.tree.Function.{Function}
@@ -21,7 +20,8 @@ use Rattle.ob_grammar.specs.Marks.{IsWord}
 use Rattle.ob_grammar.specs.Grammar.{ReadsFunction, function}
 use Rattle.ob_grammar.specs.Cells.{ReadsForm, plain, viewof, mutable, ReadsAlias, no_alias, alias, ReadsSpec, spec, ReadsSpecList, no_spec, last_spec, more_specs, ReadsSpecs, specs, ReadsWith, no_with, with_specs, ReadsImport, import, of_block, of_value, ReadsBody, block, value, plain_end, IsFunctionText, Derives, nothing, imported, function_cell, bare, named, view, mutable_cell}
 use Rattle.ob_grammar.proofs.Depths as depths
-use Rattle.ob_print_law.proofs.Placed.{kind_of, token, next, placed, Reach, Reader, name_is, open_is, brace_is, close_brace_is, comma_is, assign_is, viewof_is, mutable_is, import_is, with_is}
+use Rattle.ob_print_law.proofs.Statements.{open_no_function}
+use Rattle.ob_print_law.proofs.Placed.{kind_of, token, next, placed, Reach, Reader, name_is, brace_is, close_brace_is, comma_is, assign_is, viewof_is, mutable_is, import_is, with_is}
 use Rattle.ob_print_law.proofs.Rows as rows
 use Rattle.ob_print_law.proofs.Valid as valid
 use Rattle.ob_print_law.proofs.Valid.{Lexes, AllLex, ValidName, Valid, Units, ValidKind, lex_append}
@@ -30,7 +30,7 @@ use Rattle.ob_print_law.proofs.Operators as op
 use Rattle.ob_print_law.proofs.Words as spelt
 use Rattle.ob_print_law.proofs.Expressions.{enclosed, enclosed_lexes}
 use Rattle.ob_print_law.proofs.Listed.{Lister, Each, list_reads, listed_lexes}
-use Rattle.ob_print_law.proofs.Functions.{block_tokens, block_lex, block_read}
+use Rattle.ob_print_law.proofs.Functions.{block_tokens, block_lex, block_read, open_no_brace}
 use Rattle.ob_print_law.proofs.Printing.{prints, block_print, function_print}
 use Rattle.ob_print_law.proofs.Nesting.{Opens, none_open, flat_open, append_open, weaker, parentheses_open, braces_open, flat_word, flat_quoted, flat_equals, EachOpens, listed_opens, joined_opens, to_deepest}
 use Rattle.ob_print_law.proofs.Opening.{opens, block_open, function_open}
@@ -228,12 +228,6 @@ record CellBodyAs (f : Function) (ps : Tokens) : Type 0 where
 as_body : {f : Function} {ps : Tokens} → body_tokens f.body ≡ ps → CellBodyAs f ps → CellBody f
 as_body {f} {ps} e p = let q : CellBodyAs f (body_tokens f.body) = subst (CellBodyAs f) (sym e) p in
     record { lexes = q.lexes; reader = q.reader; begins = q.begins; opens = q.opens }
-
-open_no_brace : kind_of (Mark (codes "(")) ≡ kind.Punctuator mark.OpenBrace → ⊥
-open_no_brace e = let h = open_is in cc
-
-open_no_function : kind_of (Mark (codes "(")) ≡ kind.Reserved word.Function → ⊥
-open_no_function e = let h = open_is in cc
 
 brace_no_function : kind_of (Mark (codes "{")) ≡ kind.Reserved word.Function → ⊥
 brace_no_function e = let h = brace_is in cc

@@ -19,6 +19,7 @@ use Rattle.ob_lex.proofs.Classes.{both, quoted, text_first}
 use Rattle.ob_lex.proofs.Front.{at_class}
 use Rattle.ob_lex.proofs.Texts.{inside_again}
 use Rattle.ob_tree.specs.Tokens.{quoted as quoted_text}
+use Rattle.ob_print_law.proofs.Words.{and_true}
 use Rattle.ob_print_law.proofs.Encoding.{encode_small, encode_pair}
 use Rattle.ob_print_law.proofs.Valid.{Units}
 use Rattle.ob_print_law.proofs.Cutting.{IsCut, Itself, ascii_itself}
@@ -30,12 +31,9 @@ pub record Means (bytes units : List ℕ) : Type 0 where
   pub are : scalars cs ≡ true
   pub inside : (more : Characters) (us : List ℕ) → Inside 34 more us → Inside 34 (cs ++ more) (units ++ us)
 
-both_true : {a b : Bool} → a ≡ true → b ≡ true → (a && b) ≡ true
-both_true {a} {b} p q = ap (λ x. x && b) p ∙ q
-
 pub scalars_append : (a b : Characters) → scalars a ≡ true → scalars b ≡ true → scalars (a ++ b) ≡ true
 scalars_append [] b p q = q
-scalars_append (c ∷ cs) b p q = let r = both (scalar c) (scalars cs) p in both_true r.0 (scalars_append cs b r.1 q)
+scalars_append (c ∷ cs) b p q = let r = both (scalar c) (scalars cs) p in and_true r.0 (scalars_append cs b r.1 q)
 
 -- one behind the other
 joined : {a b us vs : List ℕ} → Means a us → Means b vs → Means (a ++ b) (us ++ vs)

@@ -4,7 +4,7 @@ use Rattle.std.specs.Prelude.{encode_utf8_all}
 use Rattle.std.specs.Fmt.{decimal}
 use Rattle.std.specs.Char.{digit_value}
 use Rattle.std.specs.Str.{IsAscii}
-use Rattle.std.proofs.Math.Utf8.{scalars, scalar, low_scalar}
+use Rattle.std.proofs.Math.Utf8.{scalars}
 use Rattle.std.proofs.Math.Seq.{take-append_seam, drop-append_seam}
 use Rattle.std.proofs.lemmas.Bool.Decides.{nat_tests}
 use Rattle.std.proofs.lemmas.Fmt.{decimal_by_steps, IsAscii-decimal}
@@ -22,6 +22,7 @@ use Rattle.ob_lex.specs.Reading.{Read, read_map, run, word_kind, word_at, digits
 use Rattle.ob_lex.proofs.Classes.{word, number, word_first, number_first}
 use Rattle.ob_lex.proofs.Front.{at_class}
 use Rattle.ob_lex.proofs.Words.{reserved_encoded}
+use Rattle.ob_print_law.proofs.Words.{and_true, small_scalar}
 use Rattle.ob_print_law.proofs.Placed.{kind_by}
 
 -- the end of the text, or a space
@@ -195,12 +196,6 @@ number_cut n w = number_by n (decimal n) w (decimal_is n w) (n == 0) refl
 
 abbrev pub Itself : Characters → Type 0
 Itself cs = (scalars cs ≡ true) × (encode_utf8_all cs ≡ cs)
-
-and_true : {a b : Bool} → a ≡ true → b ≡ true → (a && b) ≡ true
-and_true {a} {b} p q = ap (λ x. x && b) p ∙ q
-
-small_scalar : (c : ℕ) → c < 128 → scalar c ≡ true
-small_scalar c h = low_scalar c (omega arith)
 
 pub ascii_itself : (cs : Characters) → IsAscii cs → Itself cs
 ascii_itself [] h = (refl, refl)

@@ -202,7 +202,7 @@ block_body_prints items h = record {
       record { to = i.to; reads = record { form = Closed; reads = g.block_body (placed at (block_tokens items ++ rest)) (placed i.to rest) items i.reads } });
 }
 
-open_no_brace : kind_of (Mark (codes "(")) ≡ kind.Punctuator mark.OpenBrace → ⊥
+pub open_no_brace : kind_of (Mark (codes "(")) ≡ kind.Punctuator mark.OpenBrace → ⊥
 open_no_brace e = let h = open_is in cc
 
 pub value_body_prints : {a : Expr} {f : Form} → Prints a f → BodyPrints (body.Value a)

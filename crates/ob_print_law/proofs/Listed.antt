@@ -103,7 +103,7 @@ no_exprs = tt
 pub more_exprs : {a : Expr} {f : Form} (items : List Expr) → Prints a f → EachExpr items → EachExpr (a ∷ items)
 more_exprs items p h = ((p.lexes, p.at_whole), h)
 
-fused : (items : List Expr) → rows.exprs_tokens items ≡ map expr_tokens items
+pub fused : (items : List Expr) → rows.exprs_tokens items ≡ map expr_tokens items
 fused [] = refl
 fused (e ∷ items) = ap (λ l. expr_tokens e ∷ l) (fused items)
 

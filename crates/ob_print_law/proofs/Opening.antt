@@ -1,5 +1,5 @@
 -- No more brackets are open at once in the printed tokens of a tree than the tree is deep: by induction over a reading of it.
-use Rattle.std.proofs.Common.{◌≡◌, ℕ, ◌+◌, ◌≤◌, max, Bool, true, false, List, [], ◌∷◌, ◌++◌, Option, Some, None, map, refl, ap, sym, subst, ◌∙◌, arith}
+use Rattle.std.proofs.Common.{◌≡◌, ℕ, ◌+◌, ◌≤◌, max, Bool, true, false, List, [], ◌∷◌, ◌++◌, Option, Some, None, map, ap, sym, subst, ◌∙◌, arith}
 use Rattle.std.specs.Prelude.{codes}
 use Rattle.ob_base.specs.declared.operators.BinaryOp.TheVariants.{Pow}
 use Rattle.ob_base.specs.declared.operators.BinaryOp.{BinaryOp}
@@ -38,6 +38,7 @@ use Rattle.ob_grammar.specs.Marks as marks
 use Rattle.ob_grammar.specs.Grammar.{Rule, Reads, Continues, Steps, ReadsList, ReadsProps, ReadsProp, ReadsArrowBody, ReadsFunction, ReadsBlock, ReadsItems, ReadsItem, ReadsDecls, ReadsDecl, ReadsYield, ReadsStmt, ReadsTest, ReadsHead, ReadsOptional, ReadsCatch, arrow_function, function_of}
 use Rattle.ob_grammar.specs.Grammar.{arrow, assigned, unassigned, chosen, unchosen, disjoined, coalesced, operands, unraised, raised, signed, unsigned, counted_before, counted_behind, uncounted, steps, literal, name, viewof_name, made, parentheses, array, object, function_expression, no_more, goes_on, no_step, member, index, call, no_item, last_item, more_list, no_prop, last_prop, more_props, short_prop, fixed_prop, computed_prop, block_body, value_body, function, block, no_items, more_items, statement, let_item, const_item, function_item, last_decl, more_decls, decl_name, decl_value, decl_yield, yield_alone, yield_value, block_statement, empty, expression, yielded, yield_assigned, changed, stepped, if_alone, if_else, while_loop, do_loop, do_loop_ended, for_loop, for_of, break, continue, return_alone, return_value, throw, try_catch, test, no_head, let_head, const_head, expr_head, absent, present, catch_all, catch_name as catch_named}
 use Rattle.ob_grammar.proofs.Depths as depths
+use Rattle.ob_print_law.proofs.Listed.{fused}
 use Rattle.ob_print_law.proofs.Rows as rows
 use Rattle.ob_print_law.proofs.Nesting.{Opens, Flat, none_open, flat_open, append_open, weaker, parentheses_open, brackets_open, braces_open, flat_word, flat_quoted, flat_number, flat_key, flat_semicolon, flat_dot, flat_colon, flat_question, flat_equals, flat_arrow, flat_star, flat_binary, flat_compare, flat_logic, flat_assign, flat_update, flat_change, flat_unary, EachOpens, EachDeep, to_deepest, listed_opens, joined_opens}
 
@@ -93,10 +94,6 @@ operand_opens_by s d h false = parentheses_open s.tokens h
 
 operand_opens : (a : Expr) (d : ℕ) → expr_depth a ≤ d → ExprOpens a → Opens (1 + d) (operand (shown a))
 operand_opens a d le h = operand_opens_by (shown a) d (weaker h le) (shown a).alone
-
-fused : (items : List Expr) → rows.exprs_tokens items ≡ map expr_tokens items
-fused [] = refl
-fused (e ∷ items) = ap (λ l. expr_tokens e ∷ l) (fused items)
 
 exprs_open : (items : List Expr) → EachExpr items → Opens (deepest (map expr_depth items)) (listed (rows.exprs_tokens items))
 exprs_open items h = subst (λ l. Opens (deepest (map expr_depth items)) (listed l)) (sym (fused items)) (listed_opens (deepest (map expr_depth items)) expr_tokens items (to_deepest expr_depth expr_tokens items h))

@@ -65,9 +65,6 @@ Reader R ps = (at : ℕ) (rest : Tokens) → Reach R at (ps ++ rest) rest
 
 -- ---- marks and words
 
-pub mark_is : (m : Punctuator) (x : List ℕ) → mark_named x ≡ m → kind_of (Mark x) ≡ kind.Punctuator m
-mark_is m x h = ap (λ m. kind.Punctuator m) h
-
 pub word_is : (w : ReservedWord) → kind_of (Word (spelling w)) ≡ kind.Reserved w
 word_is w = ap (kind_by (spelling w)) (reserved_found w)
 

@@ -30,7 +30,7 @@ use Rattle.ob_print_law.proofs.Rules.{whole_of_left}
 use Rattle.ob_print_law.proofs.Operators as op
 use Rattle.ob_print_law.proofs.Words as spelt
 use Rattle.ob_print_law.proofs.Expressions.{enclosed, enclosed_lexes}
-use Rattle.ob_print_law.proofs.Functions.{NotElse, no_else, ItemPrints, EachItem, block_tokens, block_lex, block_read, ValidOwn, FunctionPrints}
+use Rattle.ob_print_law.proofs.Functions.{NotElse, no_else, ItemPrints, EachItem, block_tokens, block_lex, block_read, ValidOwn, FunctionPrints, open_no_brace}
 use Rattle.ob_print_law.proofs.Declarations.{Printed, starts_on_line, MayPrint, optional_lexes, optional_reads, test_lexes, test_reads, yield_reads, AllDeclare, HeadPrints, caught_tokens, caught_lexes, caught_reads}
 
 -- the printed tokens of a statement read as that statement, where `else` follows only if it may
@@ -119,10 +119,7 @@ const_no_else e = let h = const_is in cc
 function_no_else : kind_of (Word (codes "function")) ≡ kind.Reserved word.Else → ⊥
 function_no_else e = let h = function_is in cc
 
-open_no_brace : kind_of (Mark (codes "(")) ≡ kind.Punctuator mark.OpenBrace → ⊥
-open_no_brace e = let h = open_is in cc
-
-open_no_function : kind_of (Mark (codes "(")) ≡ kind.Reserved word.Function → ⊥
+pub open_no_function : kind_of (Mark (codes "(")) ≡ kind.Reserved word.Function → ⊥
 open_no_function e = let h = open_is in cc
 
 -- ---- blocks and expressions

@@ -32,10 +32,10 @@ unfolding continues_name
 continues u h =
     let e : (u == 36 || (is_ascii_alphanumeric u || (u == 95))) ≡ true = grind (arith, nat_tests) in ap (λ b. u == 36 || b) (is_xid_continue-ascii u (small u h)) ∙ e
 
-and_true : {a b : Bool} → a ≡ true → b ≡ true → (a && b) ≡ true
+pub and_true : {a b : Bool} → a ≡ true → b ≡ true → (a && b) ≡ true
 and_true {a} {b} p q = ap (λ x. x && b) p ∙ q
 
-small_scalar : (u : ℕ) → u < 128 → scalar u ≡ true
+pub small_scalar : (u : ℕ) → u < 128 → scalar u ≡ true
 small_scalar u h = low_scalar u (omega arith)
 
 ascii_parts : (us : List ℕ) → list_all continues_ascii_word us ≡ true → Each continues_name us × ((scalars us ≡ true) × (encode_utf8_all us ≡ us))
