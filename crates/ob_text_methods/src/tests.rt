@@ -1,9 +1,9 @@
 use crate::{
-    Done, abs, char_code_at, ends_with, error, includes, index_of, max, min, pad_start, repeat,
-    sign, slice, split, starts_with, string,
+    Done, abs, char_code_at, ends_with, error, includes, index_of, join, max, min, pad_start,
+    repeat, sign, slice, split, starts_with, string,
 };
 use ob_items::units_of;
-use ob_values::{AllocError, Body, ErrorKind, OpError, Ref, RegionKey, Regions, Value};
+use ob_values::{AllocError, Body, ErrorKind, OpError, Ref, RegionKey, Regions, Thrown, Value};
 use std::alloc::Global;
 use std::test::Fail;
 
@@ -519,5 +519,76 @@ fn a_long_search_is_quick(rt: HostRuntime) -> Result<(), Fail> {
         4_098,
     );
     assert!(rt; answer.is_ok());
+    Ok(())
+}
+
+fn joined(
+    alloc: Global,
+    regions: &mut Regions,
+    key: RegionKey,
+    r: Ref,
+    args: &[Value],
+    left: u64,
+) -> Result<Done, OpError> {
+    if regions.is_open(key) && regions.is_array(r) {
+        join(alloc, regions, key, r, args, left)
+    } else {
+        Err(OpError::NoMemory)
+    }
+}
+
+#[test]
+fn elements_are_joined(rt: HostRuntime) -> Result<(), Fail> {
+    let alloc = rt.alloc();
+    let mut regions = Regions::new(alloc);
+    let key = regions.open()?;
+    let x = text(alloc, &mut regions, key, "x")?;
+    let bar = text(alloc, &mut regions, key, "--")?;
+    let items = [
+        Value::Int(-12),
+        Value::Null,
+        Value::Bool(false),
+        Value::Ref(x),
+        Value::Undefined,
+    ];
+    let r = array(&mut regions, key, &items)?;
+    for (separator, left, expected) in [
+        (Value::Undefined, 6, "-12,,false,x, 1 5"),
+        (Value::Undefined, 5, "steps"),
+        (Value::Ref(bar), 7, "-12----false--x-- 2 5"),
+        (Value::Ref(bar), 6, "steps"),
+        (Value::Ref(r), 9, "bad argument"),
+    ] {
+        let before = elements(&regions, key);
+        let answer = joined(alloc, &mut regions, key, r, &[separator], left);
+        let made = elements(&regions, key).saturating_sub(before);
+        let mut out = String::new(alloc);
+        put_answer(&mut out, &regions, made, answer)?;
+        assert_eq!(rt; out.as_str(), expected);
+    }
+    Ok(())
+}
+
+// The fault of an element comes before that of the length, and that before the limits.
+#[test]
+fn what_is_joined_may_be_too_long(rt: HostRuntime) -> Result<(), Fail> {
+    let alloc = rt.alloc();
+    let mut regions = Regions::new(alloc);
+    let key = regions.open()?;
+    let units = vec![in alloc; 97u16; 32_768]?;
+    let long = units_text(&mut regions, key, units.as_slice())?;
+    let two = array(&mut regions, key, &[Value::Ref(long), Value::Ref(long)])?;
+    let bad = array(
+        &mut regions,
+        key,
+        &[Value::Ref(long), Value::Ref(long), Value::Ref(two)],
+    )?;
+    let empty = text(alloc, &mut regions, key, "")?;
+    let long = Err(OpError::Throws(Thrown::TextTooLong));
+    assert!(rt; joined(alloc, &mut regions, key, two, &[], 0) == long);
+    let all = joined(alloc, &mut regions, key, two, &[Value::Ref(empty)], 4_098);
+    assert!(rt; all.is_ok());
+    let answer = joined(alloc, &mut regions, key, bad, &[], 0);
+    assert!(rt; answer == Err(OpError::Throws(Thrown::BadArgument)));
     Ok(())
 }
