@@ -4,7 +4,7 @@ use crate::bad_row::BadRow;
 use crate::expressions::two;
 use crate::parts::{Parts, some_text, take, take_last, text, units};
 use ob_base::List;
-use ob_tree::{Boxed, CellTree, Expr, FnBody, Function, ImportSpec, ImportTree, SpecForm};
+use ob_tree::{CellTree, Expr, FnBody, Function, ImportSpec, ImportTree, SpecForm};
 
 impl Parts {
     /// Makes a cell or a part of one, and tells whether the word is one of these.
@@ -15,10 +15,7 @@ impl Parts {
     // `value`, `items:2` and `generator_items:2`.
     fn body(&mut self, word: &str, more: &str) -> Result<bool, BadRow> {
         let body = match word {
-            "value" => {
-                let value = take(&mut self.exprs)?;
-                FnBody::Value(Boxed::new(self.alloc, value)?)
-            }
+            "value" => FnBody::Value(self.boxed()?),
             "items" | "generator_items" => {
                 FnBody::Items(take_last(self.alloc, &mut self.stmts, more)?)
             }

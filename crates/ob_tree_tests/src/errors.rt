@@ -1,8 +1,18 @@
+use crate::bad_row::BadRow;
 use crate::parts::cell;
 use ob_base::NoMemory;
 use ob_early::is_free_of_errors;
 use std::alloc::Global;
 use std::test::Fail;
+
+/// Whether the cell that a row makes has no early error.
+fn is_free(alloc: Global, row: &str) -> Result<bool, BadRow> {
+    let cell = cell(alloc, row)?;
+    match is_free_of_errors(alloc, &cell) {
+        Ok(is_free) => Ok(is_free),
+        Err(NoMemory) => Err(BadRow::NoMemory),
+    }
+}
 
 #[test]
 fn a_scope_declares_a_name_once(rt: HostRuntime) -> Result<(), Fail> {
@@ -30,8 +40,7 @@ fn a_scope_declares_a_name_once(rt: HostRuntime) -> Result<(), Fail> {
         ("unset:e let:1 catch:e:1 try:0 items:1 bare", false),
         ("unset:a let:1 catch:e:1 try:0 items:1 bare", true),
     ] {
-        let cell = cell(alloc, row)?;
-        assert!(rt; is_free_of_errors(alloc, &cell)? == wanted, "{row}");
+        assert!(rt; is_free(alloc, row)? == wanted, "{row}");
     }
     Ok(())
 }
@@ -71,8 +80,7 @@ fn declarations_jumps_and_yields_stand_in_their_place(rt: HostRuntime) -> Result
         ("yield::0 generator:g:p:1 declared items:1 bare", true),
         ("return:0 items:1 bare", true),
     ] {
-        let cell = cell(alloc, row)?;
-        assert!(rt; is_free_of_errors(alloc, &cell)? == wanted, "{row}");
+        assert!(rt; is_free(alloc, row)? == wanted, "{row}");
     }
     Ok(())
 }
@@ -100,8 +108,7 @@ fn names_that_are_assigned_to_are_bound(rt: HostRuntime) -> Result<(), Fail> {
         ("name:f 1 = do function:f:p:1 function_cell", true),
         ("name:f 1 = do items:1 named:f", false),
     ] {
-        let cell = cell(alloc, row)?;
-        assert!(rt; is_free_of_errors(alloc, &cell)? == wanted, "{row}");
+        assert!(rt; is_free(alloc, row)? == wanted, "{row}");
     }
     Ok(())
 }
@@ -124,8 +131,7 @@ fn many_names_in_one_scope_take_no_time(rt: HostRuntime) -> Result<(), Fail> {
     let alloc = rt.alloc();
     for last in [9999, 0] {
         let row = many_names(alloc, 9999, last)?;
-        let cell = cell(alloc, row.as_str())?;
-        assert!(rt; is_free_of_errors(alloc, &cell)? == (last == 9999));
+        assert!(rt; is_free(alloc, row.as_str())? == (last == 9999));
     }
     Ok(())
 }

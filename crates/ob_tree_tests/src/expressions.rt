@@ -23,7 +23,8 @@ impl Parts {
         Ok(true)
     }
 
-    fn boxed(&mut self) -> Result<Boxed<Expr>, BadRow> {
+    /// The last expression, as a part of another.
+    pub fn boxed(&mut self) -> Result<Boxed<Expr>, BadRow> {
         let expr = take(&mut self.exprs)?;
         Ok(Boxed::new(self.alloc, expr)?)
     }
@@ -161,18 +162,24 @@ impl Parts {
         })
     }
 
+    fn computed(&mut self, value: Expr) -> Result<PropNode, BadRow> {
+        match self.exprs.pop() {
+            Some(key) => Ok(PropNode::Computed(key, value)),
+            None => Err(BadRow::NoSuchPart),
+        }
+    }
+
     // `short:a`, `key:a` and `computed`.
     fn property(&mut self, word: &str, more: &str) -> Result<bool, BadRow> {
         let made = match word {
             "short" => PropNode::Short(text(self.alloc, more)?),
             "key" => {
-                let value = take(&mut self.exprs)?;
-                PropNode::Fixed(units(self.alloc, more)?, value)
+                let key = units(self.alloc, more)?;
+                PropNode::Fixed(key, take(&mut self.exprs)?)
             }
             "computed" => {
                 let value = take(&mut self.exprs)?;
-                let key = take(&mut self.exprs)?;
-                PropNode::Computed(key, value)
+                self.computed(value)?
             }
             _ => return Ok(false),
         };

@@ -76,13 +76,12 @@ fn function_of(cell: &CellTree) -> Option<&Function> {
 
 /// What a cell refers to and binds: its free names, its local names, the bindings of its function
 /// and the uses, with `; ` between them.
-fn names_in(alloc: Global, row: &str) -> Result<String, BadRow> {
-    let cell = cell(alloc, row)?;
-    let mut line = free_text(alloc, &cell)?;
-    let local = local_text(alloc, &cell)?;
+fn names_of(alloc: Global, cell: &CellTree) -> Result<String, BadRow> {
+    let mut line = free_text(alloc, cell)?;
+    let local = local_text(alloc, cell)?;
     line.push_str("; ")?;
     line.push_str(local.as_str())?;
-    if let Some(function) = function_of(&cell) {
+    if let Some(function) = function_of(cell) {
         let slots = resolve_locals(alloc, function)?;
         let copy = slots.copy(alloc)?;
         let bindings = bindings_text(alloc, copy.bindings.as_slice())?;
@@ -93,6 +92,12 @@ fn names_in(alloc: Global, row: &str) -> Result<String, BadRow> {
         line.push_str(uses.as_str())?;
     }
     Ok(line)
+}
+
+/// The same of the cell that a row makes.
+fn names_in(alloc: Global, row: &str) -> Result<String, BadRow> {
+    let cell = cell(alloc, row)?;
+    names_of(alloc, &cell)
 }
 
 #[test]
@@ -222,18 +227,28 @@ fn many_names(alloc: Global, count: u32) -> Result<String, NoMemory> {
     Ok(row)
 }
 
+/// How many free names, local names, bindings and uses a cell has.
+fn counts_of(alloc: Global, cell: &CellTree) -> Result<[usize; 4], BadRow> {
+    let free = free_names(alloc, cell)?.len();
+    let local = local_names(alloc, cell)?.len();
+    let Some(function) = function_of(cell) else {
+        return Err(BadRow::NoSuchPart);
+    };
+    let slots = resolve_locals(alloc, function)?;
+    Ok([free, local, slots.bindings.len(), slots.uses.len()])
+}
+
+/// The same of the cell that a row makes.
+fn counts_in(alloc: Global, row: &str) -> Result<[usize; 4], BadRow> {
+    let cell = cell(alloc, row)?;
+    counts_of(alloc, &cell)
+}
+
 #[test]
 fn a_long_text_has_thousands_of_names(rt: HostRuntime) -> Result<(), Fail> {
     let alloc = rt.alloc();
     let row = many_names(alloc, 8000)?;
-    let cell = cell(alloc, row.as_str())?;
-    assert_eq!(rt; free_names(alloc, &cell)?.len(), 8000);
-    assert_eq!(rt; local_names(alloc, &cell)?.len(), 8000);
-    if let Some(function) = function_of(&cell) {
-        let slots = resolve_locals(alloc, function)?;
-        assert_eq!(rt; slots.bindings.len(), 8000);
-        assert_eq!(rt; slots.uses.len(), 16000);
-        assert!(rt; slots.uses.as_slice().last() == Some(&Use::Local(7999)));
-    }
+    let counts = counts_in(alloc, row.as_str())?;
+    assert_eq!(rt; counts, [8000, 8000, 8000, 16000]);
     Ok(())
 }

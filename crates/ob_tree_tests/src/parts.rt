@@ -87,10 +87,10 @@ pub fn take_last<T: Drop>(
 }
 
 /// The last part of a list, where the count is 1.
-pub fn take_some<T: Drop>(list: &mut List<T>, count: &str) -> Result<Option<T>, BadRow> {
+pub fn take_some<T: Drop>(list: &mut List<T>, count: &str) -> Option<T> {
     match count {
-        "1" => Ok(list.pop()),
-        _ => Ok(None),
+        "1" => list.pop(),
+        _ => None,
     }
 }
 

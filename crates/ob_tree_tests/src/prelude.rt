@@ -1,4 +1,4 @@
-use ob_base::{List, NoMemory};
+use ob_base::{List, NoMemory, Text};
 use ob_tree::{Boxed, CellTree, Expr, FnBody, Function, print_cell};
 use ob_tree_prelude::{Prelude, prelude_tree};
 use std::alloc::Global;
@@ -14,6 +14,12 @@ fn cell(alloc: Global, which: Prelude) -> Result<CellTree, NoMemory> {
         generator: false,
         body: FnBody::Value(value),
     }))
+}
+
+/// The canonical text of that cell.
+fn text_of(alloc: Global, which: Prelude) -> Result<Text, NoMemory> {
+    let cell = cell(alloc, which)?;
+    print_cell(alloc, &cell)
 }
 
 const MAP: &str =
@@ -49,8 +55,7 @@ fn the_trees_of_the_builtins_print_as_their_texts(rt: HostRuntime) -> Result<(),
         (Prelude::Reduce, REDUCE),
         (Prelude::From, FROM),
     ] {
-        let cell = cell(alloc, which)?;
-        let printed = print_cell(alloc, &cell)?;
+        let printed = text_of(alloc, which)?;
         assert_eq!(rt; printed.as_str(), wanted);
     }
     Ok(())

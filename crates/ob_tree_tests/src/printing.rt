@@ -1,18 +1,27 @@
 use crate::bad_row::BadRow;
 use crate::parts::cell;
-use ob_base::{List, UnaryOp};
-use ob_tree::{Boxed, CellTree, Expr, FnBody, Function, depth, print_cell};
+use ob_base::{NoMemory, Text};
+use ob_tree::{CellTree, depth, print_cell};
 use std::alloc::Global;
 use std::test::Fail;
 
-/// Whether the cell of a row and its copy have that depth and print so.
+/// The text of a copy of the cell.
+fn copy_text(alloc: Global, cell: &CellTree) -> Result<Text, NoMemory> {
+    let copy = cell.copy(alloc)?;
+    print_cell(alloc, &copy)
+}
+
+/// Whether the cell has that depth, and it and its copy print so.
+fn is_shown(alloc: Global, cell: &CellTree, nodes: u32, wanted: &str) -> Result<bool, BadRow> {
+    let first = print_cell(alloc, cell)?;
+    let second = copy_text(alloc, cell)?;
+    Ok(depth(cell) == nodes && first.as_str() == wanted && second.as_str() == wanted)
+}
+
+/// The same of the cell that a row makes.
 fn prints(alloc: Global, row: &str, nodes: u32, wanted: &str) -> Result<bool, BadRow> {
     let cell = cell(alloc, row)?;
-    let copy = cell.copy(alloc)?;
-    let first = print_cell(alloc, &cell)?;
-    let second = print_cell(alloc, &copy)?;
-    let is_printed = first.as_str() == wanted && second.as_str() == wanted;
-    Ok(is_printed && depth(&cell) == nodes && depth(&copy) == nodes)
+    is_shown(alloc, &cell, nodes, wanted)
 }
 
 #[test]
@@ -134,24 +143,31 @@ fn statements_and_cells_print(rt: HostRuntime) -> Result<(), Fail> {
     Ok(())
 }
 
-#[test]
-fn a_deep_cell_is_counted_and_printed(rt: HostRuntime) -> Result<(), Fail> {
-    let alloc = rt.alloc();
-    let mut expr = Expr::Bool(true);
-    for _ in 0..198 {
-        let operand = Boxed::new(alloc, expr)?;
-        expr = Expr::Unary(UnaryOp::Not, operand);
+/// So many times one text, a second text, and so many times a third.
+fn around(
+    alloc: Global,
+    count: u32,
+    before: &str,
+    inside: &str,
+    behind: &str,
+) -> Result<String, NoMemory> {
+    let mut text = String::new(alloc);
+    for _ in 0..count {
+        text.push_str(before)?;
     }
-    let value = Boxed::new(alloc, expr)?;
-    let cell = CellTree::Bare(Function {
-        name: None,
-        params: List::new(alloc),
-        generator: false,
-        body: FnBody::Value(value),
-    });
-    let copy = cell.copy(alloc)?;
-    assert_eq!(rt; depth(&copy), 200);
-    let printed = print_cell(alloc, &copy)?;
-    assert!(rt; printed.as_str().starts_with("( ! ( ! "));
+    text.push_str(inside)?;
+    for _ in 0..count {
+        text.push_str(behind)?;
+    }
+    Ok(text)
+}
+
+#[test]
+fn a_cell_as_deep_as_it_may_be_prints(rt: HostRuntime) -> Result<(), Fail> {
+    let alloc = rt.alloc();
+    let mut row = around(alloc, 198, "", "true ", "! ")?;
+    row.push_str("value bare")?;
+    let wanted = around(alloc, 198, "( ! ", "true", " )")?;
+    assert!(rt; prints(alloc, row.as_str(), 200, wanted.as_str())?);
     Ok(())
 }

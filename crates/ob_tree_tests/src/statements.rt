@@ -39,7 +39,7 @@ impl Parts {
             "continue" => Stmt::Continue,
             "do" => Stmt::Expr(take(&mut self.exprs)?),
             "block" => Stmt::Block(take_last(self.alloc, &mut self.stmts, more)?),
-            "return" => Stmt::Return(take_some(&mut self.exprs, more)?),
+            "return" => Stmt::Return(take_some(&mut self.exprs, more)),
             "throw" => Stmt::Throw(take(&mut self.exprs)?),
             _ => return Ok(false),
         };
@@ -63,6 +63,7 @@ impl Parts {
             },
             _ => {}
         }
+        let name = text(self.alloc, more)?;
         let value = match word {
             "is" => DeclValue::Value(take(&mut self.exprs)?),
             "unset" => DeclValue::Nothing,
@@ -70,7 +71,6 @@ impl Parts {
             "received_for" => DeclValue::Yield(Some(take(&mut self.exprs)?)),
             _ => return Ok(false),
         };
-        let name = text(self.alloc, more)?;
         self.decls.push(Decl { name, value })?;
         Ok(true)
     }
@@ -80,18 +80,18 @@ impl Parts {
         let (name, more) = two(more);
         match word {
             "yield" => {
-                let value = take_some(&mut self.exprs, more)?;
                 let name = some_text(self.alloc, name)?;
+                let value = take_some(&mut self.exprs, more);
                 self.stmt(Stmt::Yield(name, value))
             }
             "change" => {
                 let (op, count) = two(more);
-                let value = take_some(&mut self.exprs, count)?;
+                let Some(op) = change(op) else {
+                    return Err(BadRow::NoSuchPart);
+                };
                 let name = text(self.alloc, name)?;
-                match change(op) {
-                    Some(op) => self.stmt(Stmt::Change(name, op, value)),
-                    None => Err(BadRow::NoSuchPart),
-                }
+                let value = take_some(&mut self.exprs, count);
+                self.stmt(Stmt::Change(name, op, value))
             }
             _ => Ok(false),
         }
@@ -121,15 +121,15 @@ impl Parts {
         match word {
             "for" => {
                 let turn = self.part()?;
-                let update = take_some(&mut self.exprs, second)?;
-                let test = take_some(&mut self.exprs, first)?;
                 let head = take(&mut self.heads)?;
+                let update = take_some(&mut self.exprs, second);
+                let test = take_some(&mut self.exprs, first);
                 self.stmt(Stmt::For(head, test, update, turn))
             }
             "for_of" => {
                 let turn = self.part()?;
-                let items = take(&mut self.exprs)?;
                 let name = text(self.alloc, second)?;
+                let items = take(&mut self.exprs)?;
                 self.stmt(Stmt::ForOf(first == "const", name, items, turn))
             }
             _ => Ok(false),
