@@ -132,12 +132,12 @@ module _ (limit : ℕ) where
   -- a chain of `??`, which may be empty
   nullish_is : (m : ℕ) (ts : List Token) {mid : List Token} {one : Expr} {f : Form} {a : Expr} {g : Form} {rest : List Token} → Continues (chain 7) 13 one f mid a g rest → IsOperand g → Stops g 14 rest
       → chain_of limit (reads limit m) (reads_statement limit m) 7 ts ≡ Some (piece one f, mid)
-      → operands_from limit (reads limit m) (reads_statement limit m) (chain_of limit (reads limit m) (reads_statement limit m) 7) 13 (length mid) (piece one f) mid ≡ Some (piece a g, rest)
+      → operands_from limit (reads limit m) (reads_statement limit m) (reads limit m (chain 7)) 13 (length mid) (piece one f) mid ≡ Some (piece a g, rest)
       → short_of limit (reads limit m) (reads_statement limit m) ts ≡ Some (piece a g, rest)
   nullish_is m ts (no_more r n a f mid) o s e more =
       expressions.disjoined_is limit (reads limit m) (reads_statement limit m) ts mid mid (piece a f) (piece a f) (Some (piece a f, mid)) e (not_rank f 14 13 mid o s (omega arith) (omega arith))
-      (expressions.operands_stop limit (reads limit m) (reads_statement limit m) (chain_of limit (reads limit m) (reads_statement limit m) 7) 11 (length mid) (piece a f) mid (not_rank f 14 11 mid o s (omega arith) (omega arith)))
-      (expressions.operands_stop limit (reads limit m) (reads_statement limit m) (chain_of limit (reads limit m) (reads_statement limit m) 8) 12 (length mid) (piece a f) mid (not_rank f 14 12 mid o s (omega arith) (omega arith)))
+      (expressions.operands_stop limit (reads limit m) (reads_statement limit m) (reads limit m (chain 7)) 11 (length mid) (piece a f) mid (not_rank f 14 11 mid o s (omega arith) (omega arith)))
+      (expressions.operands_stop limit (reads limit m) (reads_statement limit m) (reads limit m (chain 8)) 12 (length mid) (piece a f) mid (not_rank f 14 12 mid o s (omega arith) (omega arith)))
   nullish_is m ts (goes_on r n a b c f g h t us mid rest op h1 h2 d1 d2) o s e more =
       expressions.coalesced_is limit (reads limit m) (reads_statement limit m) ts us t (piece a f) (Some (piece c h, rest)) e h1 more
 
@@ -221,14 +221,14 @@ module _ (limit : ℕ) where
 
     complete_continues : {r : Rule} {n : ℕ} {a : Expr} {f : Form} {ts : List Token} {b : Expr} {g : Form} {rest : List Token} (d : Continues r n a f ts b g rest)
         → ((h : Form) → Fits r h → IsOperand h) → IsOperand f → reach r ≤ n → 2 ≤ n → Stops g (n + 1) rest → tall_continues d ≤ limit → (m : ℕ) → need_continues d ≤ m → (i : ℕ) → length ts ≤ i
-        → operands_from limit (reads limit m) (reads_statement limit m) (at limit (reads limit m) (reads_statement limit m) r) n i (piece a f) ts ≡ Some (piece b g, rest)
+        → operands_from limit (reads limit m) (reads_statement limit m) (reads limit m r) n i (piece a f) ts ≡ Some (piece b g, rest)
     complete_continues (no_more r n a f ts) o w k lo s top m le i len =
-        expressions.operands_stop limit (reads limit m) (reads_statement limit m) (at limit (reads limit m) (reads_statement limit m) r) n i (piece a f) ts (not_rank f (n + 1) n ts w s lo (omega arith))
+        expressions.operands_stop limit (reads limit m) (reads_statement limit m) (reads limit m r) n i (piece a f) ts (not_rank f (n + 1) n ts w s lo (omega arith))
     complete_continues (goes_on r n a b c f g h t ts mid rest op h1 h2 d1 d2) o w k lo s top m le zero len = absurd (omega arith)
     complete_continues (goes_on r n a b c f g h t ts mid rest op h1 h2 d1 d2) o w k lo s top m le (suc i) len =
         let v = o g (fits d1) in
-        expressions.operands_more limit (reads limit m) (reads_statement limit m) (at limit (reads limit m) (reads_statement limit m) r) n i a b f g t ts mid op (Some (piece c h, rest)) h1 h2
-        (complete d1 (next_stops g d2 v (reach r) k s) (omega arith) m (omega arith)) (omega arith)
+        expressions.operands_more limit (reads limit m) (reads_statement limit m) (reads limit m r) n i a b f g t ts mid op (Some (piece c h, rest)) h1 h2
+        (deeper r ts (Some (piece b g, mid)) (need d1) (complete d1 (next_stops g d2 v (reach r) k s) (omega arith)) m (omega arith)) (omega arith)
         (complete_continues d2 o (edge_operand g v) k lo s (omega arith) m (omega arith) i (omega (arith, shorter d1)))
 
     complete_steps : {a : Expr} {f : Form} {ts : List Token} {b : Expr} {g : Form} {rest : List Token} (d : Steps a f ts b g rest) → IsLeft f → Stops g 1 rest

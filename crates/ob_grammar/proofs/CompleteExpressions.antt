@@ -25,7 +25,7 @@ use Rattle.ob_grammar.specs.declared.form.Form.TheVariants.{Target, Other, Updat
 use Rattle.ob_grammar.specs.declared.form.Level.{Level}
 use Rattle.ob_grammar.specs.declared.piece.Piece.{Piece}
 use Rattle.ob_grammar.specs.Forms.{edge, Stops}
-use Rattle.ob_grammar.specs.Grammar.{Rule, whole, power, prefixed, tighter, arrow_function, ReadsBlock, block}
+use Rattle.ob_grammar.specs.Grammar.{Rule, whole, chain, power, prefixed, tighter, arrow_function, ReadsBlock, block}
 use Rattle.ob_grammar.specs.Taking.{Read, Parser, ◌>>=◌, piece, opens_parenthesis, closes_parenthesis, closes_bracket, opens_brace, is_colon, is_question, is_star_star, name_of, take, next_is, one, arrow_head}
 use Rattle.ob_grammar.specs.Reading.{kept, list_of, props_from, block_of, function_rest, primary_by, primary_at, primary_of, step_by, steps_from, left_of, behind_by, count_behind, update_at, updated_of, prefixed_at, prefixed_of, raised_by, raise, power_at, power_of, more_by, operator_at, operands_from, operands_of, chain_of, has_rank, short_by, short_of, chosen_by, conditional_of, assign_by, assigned_of, body_by, arrow_body, whole_by, whole_of, at}
 use Rattle.ob_grammar.proofs.CompleteTaking.{then_is, take_on, take_off, next_on, before_on, one_on, taken, name_on}
@@ -246,13 +246,13 @@ module _ (limit : ℕ) (inner : Rule → Parser Piece) (nested : Level → Parse
   operands_more next n m a b f g t ts mid op q h ho d top more = ap (λ o. more_by limit inner nested o (piece a f) t ts next (operands_from limit inner nested next n m)) (operator_on n t op h ho)
       ∙ then_is (next ts) (piece b g) mid _ d ∙ kept_is limit (piece (joined op a b) (edge g)) (operands_from limit inner nested next n m) mid top ∙ more
 
-  chain_by : (k : ℕ) (ts : List Token) → chain_of limit inner nested k ts ≡ (at limit inner nested (tighter k) ts >>= operands_of limit inner nested (at limit inner nested (tighter k)) (k + 3))
+  chain_by : (k : ℕ) (ts : List Token) → chain_of limit inner nested k ts ≡ (at limit inner nested (tighter k) ts >>= operands_of limit inner nested (inner (tighter k)) (k + 3))
   unfolding chain_of
   chain_by zero ts = refl
   chain_by (suc k) ts = refl
 
   pub chain_is : (k : ℕ) (ts mid : List Token) (p : Piece) (q : Read Piece) → at limit inner nested (tighter k) ts ≡ Some (p, mid)
-      → operands_from limit inner nested (at limit inner nested (tighter k)) (k + 3) (length mid) p mid ≡ q → chain_of limit inner nested k ts ≡ q
+      → operands_from limit inner nested (inner (tighter k)) (k + 3) (length mid) p mid ≡ q → chain_of limit inner nested k ts ≡ q
   unfolding operands_of
   chain_is k ts mid p q d more = chain_by k ts ∙ then_is (at limit inner nested (tighter k) ts) p mid _ d ∙ more
 
@@ -266,17 +266,17 @@ module _ (limit : ℕ) (inner : Rule → Parser Piece) (nested : Level → Parse
   has_rank_off n (t ∷ ts) h = ne_eqb (rank t) n h
 
   pub coalesced_is : (ts mid : List Token) (t : Token) (p : Piece) (q : Read Piece) → chain_of limit inner nested 7 ts ≡ Some (p, t ∷ mid) → rank t ≡ 13
-      → operands_from limit inner nested (chain_of limit inner nested 7) 13 (length (t ∷ mid)) p (t ∷ mid) ≡ q → short_of limit inner nested ts ≡ q
+      → operands_from limit inner nested (inner (chain 7)) 13 (length (t ∷ mid)) p (t ∷ mid) ≡ q → short_of limit inner nested ts ≡ q
   unfolding short_of operands_of
   coalesced_is ts mid t p q d h more = then_is (chain_of limit inner nested 7 ts) p (t ∷ mid) _ d
       ∙ ap (λ b. short_by limit inner nested b p (t ∷ mid)) (has_rank_on 13 t mid h) ∙ more
 
   pub disjoined_is : (ts mid next : List Token) (p q : Piece) (r : Read Piece) → chain_of limit inner nested 7 ts ≡ Some (p, mid) → NotRank 13 mid
-      → operands_from limit inner nested (chain_of limit inner nested 7) 11 (length mid) p mid ≡ Some (q, next)
-      → operands_from limit inner nested (chain_of limit inner nested 8) 12 (length next) q next ≡ r → short_of limit inner nested ts ≡ r
+      → operands_from limit inner nested (inner (chain 7)) 11 (length mid) p mid ≡ Some (q, next)
+      → operands_from limit inner nested (inner (chain 8)) 12 (length next) q next ≡ r → short_of limit inner nested ts ≡ r
   unfolding short_of operands_of
   disjoined_is ts mid next p q r d h more last = then_is (chain_of limit inner nested 7 ts) p mid _ d
-      ∙ ap (λ b. short_by limit inner nested b p mid) (has_rank_off 13 mid h) ∙ then_is (operands_from limit inner nested (chain_of limit inner nested 7) 11 (length mid) p mid) q next _ more ∙ last
+      ∙ ap (λ b. short_by limit inner nested b p mid) (has_rank_off 13 mid h) ∙ then_is (operands_from limit inner nested (inner (chain 7)) 11 (length mid) p mid) q next _ more ∙ last
 
   -- ---- Cond
 
@@ -338,9 +338,9 @@ module _ (limit : ℕ) (inner : Rule → Parser Piece) (nested : Level → Parse
 
   chain_up : (ts mid : List Token) (t : Token) (p : Piece) → power_of limit inner nested ts ≡ Some (p, t ∷ mid) → rank t ≡ 15 → (k : ℕ) → k ≤ 9
       → chain_of limit inner nested k ts ≡ Some (p, t ∷ mid)
-  chain_up ts mid t p d h zero le = chain_is zero ts (t ∷ mid) p _ d (operands_stop (power_of limit inner nested) 3 (length (t ∷ mid)) p (t ∷ mid) (λ e. omega arith))
+  chain_up ts mid t p d h zero le = chain_is zero ts (t ∷ mid) p _ d (operands_stop (inner power) 3 (length (t ∷ mid)) p (t ∷ mid) (λ e. omega arith))
   chain_up ts mid t p d h (suc k) le = chain_is (suc k) ts (t ∷ mid) p _ (chain_up ts mid t p d h k (omega arith))
-      (operands_stop (chain_of limit inner nested k) (suc k + 3) (length (t ∷ mid)) p (t ∷ mid) (λ e. omega arith))
+      (operands_stop (inner (chain k)) (suc k + 3) (length (t ∷ mid)) p (t ∷ mid) (λ e. omega arith))
 
   pub left_short : (ts mid : List Token) (t : Token) (a : Expr) (f : Form) → First begins_left ts → IsLeft f → left_of limit inner nested ts ≡ Some (piece a f, t ∷ mid)
       → rank t ≡ 15 → short_of limit inner nested ts ≡ Some (piece a f, t ∷ mid)
@@ -351,8 +351,8 @@ module _ (limit : ℕ) (inner : Rule → Parser Piece) (nested : Level → Parse
       let w = unsigned_power ts (t ∷ mid) a f (record { token = p.token; more = p.more; is = p.is; no_sign = left_no_sign p.token.kind p.passes }) o (quiet f 3 t v (omega arith)) u in
       let c = chain_up ts mid t (piece a f) w h 7 (omega arith) in
       disjoined_is ts (t ∷ mid) (t ∷ mid) (piece a f) (piece a f) _ c (λ e. omega arith)
-      (operands_stop (chain_of limit inner nested 7) 11 (length (t ∷ mid)) (piece a f) (t ∷ mid) (λ e. omega arith))
-      (operands_stop (chain_of limit inner nested 8) 12 (length (t ∷ mid)) (piece a f) (t ∷ mid) (λ e. omega arith))
+      (operands_stop (inner (chain 7)) 11 (length (t ∷ mid)) (piece a f) (t ∷ mid) (λ e. omega arith))
+      (operands_stop (inner (chain 8)) 12 (length (t ∷ mid)) (piece a f) (t ∷ mid) (λ e. omega arith))
 
   pub target_conditional : (ts mid : List Token) (t : Token) (a : Expr) → First begins_left ts → left_of limit inner nested ts ≡ Some (piece a Target, t ∷ mid) → rank t ≡ 15
       → conditional_of limit inner nested ts ≡ Some (piece a Target, t ∷ mid)

@@ -43,7 +43,7 @@ abbrev mutual
 
   pub need_continues : {r : Rule} {n : ℕ} {a : Expr} {f : Form} {ts : List Token} {b : Expr} {g : Form} {rest : List Token} → Continues r n a f ts b g rest → ℕ
   need_continues (no_more r n a f ts) = 0
-  need_continues (goes_on r n a b c f g h t ts mid rest op h1 h2 d1 d2) = max (need d1) (need_continues d2)
+  need_continues (goes_on r n a b c f g h t ts mid rest op h1 h2 d1 d2) = max (1 + need d1) (need_continues d2)
 
   pub need_steps : {a : Expr} {f : Form} {ts : List Token} {b : Expr} {g : Form} {rest : List Token} → Steps a f ts b g rest → ℕ
   need_steps (no_step a f ts) = 0

@@ -241,17 +241,17 @@ module _ (limit : ℕ) (inner : Rule → Parser Piece) (nested : Level → Parse
   sound_chain : (k : ℕ) (ts : List Token) → OnRead (chain_of limit inner nested k ts) (As (chain k) ts)
   unfolding chain_of
   sound_chain zero ts = after (As power ts) (As (chain zero) ts) (power_of limit inner nested ts) _ (sound_power ts) (λ p mid d.
-      on_weaker (More power 3 p mid) (As (chain zero) ts) _ (sound_operands power 3 (power_of limit inner nested) sound_power p mid) (λ q rest c. operands zero ts mid rest p.tree q.tree p.form q.form d c))
+      on_weaker (More power 3 p mid) (As (chain zero) ts) _ (sound_operands power 3 (inner power) (on_inner power) p mid) (λ q rest c. operands zero ts mid rest p.tree q.tree p.form q.form d c))
   sound_chain (suc k) ts = after (As (chain k) ts) (As (chain (suc k)) ts) (chain_of limit inner nested k ts) _ (sound_chain k ts) (λ p mid d.
-      on_weaker (More (chain k) (suc k + 3) p mid) (As (chain (suc k)) ts) _ (sound_operands (chain k) (suc k + 3) (chain_of limit inner nested k) (sound_chain k) p mid)
+      on_weaker (More (chain k) (suc k + 3) p mid) (As (chain (suc k)) ts) _ (sound_operands (chain k) (suc k + 3) (inner (chain k)) (on_inner (chain k)) p mid)
       (λ q rest c. operands (suc k) ts mid rest p.tree q.tree p.form q.form d c))
 
   sound_short_by : (ts mid : List Token) (p : Piece) → As (chain 7) ts p mid → (b : Bool) → OnRead (short_by limit inner nested b p mid) (As short ts)
-  sound_short_by ts mid p d true = on_weaker (More (chain 7) 13 p mid) (As short ts) _ (sound_operands (chain 7) 13 (chain_of limit inner nested 7) (sound_chain 7) p mid)
+  sound_short_by ts mid p d true = on_weaker (More (chain 7) 13 p mid) (As short ts) _ (sound_operands (chain 7) 13 (inner (chain 7)) (on_inner (chain 7)) p mid)
       (λ q rest c. coalesced ts mid rest p.tree q.tree p.form q.form d c)
-  sound_short_by ts mid p d false = after (More (chain 7) 11 p mid) (As short ts) (operands_of limit inner nested (chain_of limit inner nested 7) 11 p mid) _
-      (sound_operands (chain 7) 11 (chain_of limit inner nested 7) (sound_chain 7) p mid) (λ q next c.
-      on_weaker (More (chain 8) 12 q next) (As short ts) _ (sound_operands (chain 8) 12 (chain_of limit inner nested 8) (sound_chain 8) q next)
+  sound_short_by ts mid p d false = after (More (chain 7) 11 p mid) (As short ts) (operands_of limit inner nested (inner (chain 7)) 11 p mid) _
+      (sound_operands (chain 7) 11 (inner (chain 7)) (on_inner (chain 7)) p mid) (λ q next c.
+      on_weaker (More (chain 8) 12 q next) (As short ts) _ (sound_operands (chain 8) 12 (inner (chain 8)) (on_inner (chain 8)) q next)
       (λ z rest e. disjoined ts rest z.tree z.form (operands 9 ts next rest q.tree z.tree q.form z.form (operands 8 ts mid next p.tree q.tree p.form q.form d c) e)))
 
   sound_short : (ts : List Token) → OnRead (short_of limit inner nested ts) (As short ts)

@@ -1,5 +1,6 @@
--- The descent on expressions and statements, as functions on lists of tokens. `inner` and `nested` read a piece one nesting deeper; a number
--- bounds the turns of a loop. `limit` bounds the depth of a tree that the turns of a loop build, since nothing else does.
+-- The descent on expressions and statements, as functions on lists of tokens. `inner` and `nested` read a piece one nesting deeper: what
+-- stands in brackets, a statement in a statement, or what an operator has on its right, so that no nesting is without a bracket or a deeper
+-- tree. A number bounds the turns of a loop, and `limit` the depth of a tree that the turns of a loop build, since nothing else does.
 use Rattle.std.specs.Prelude.{ℕ, zero, suc, ◌+◌, Bool, true, false, ◌==◌, nat_le, List, [], ◌∷◌, length, Option, Some, None, option_and_then, if◌then◌else◌}
 use Rattle.ob_base.specs.declared.operators.BinaryOp.TheVariants.{Pow}
 use Rattle.ob_base.specs.declared.operators.UnaryOp.{UnaryOp}
@@ -232,8 +233,8 @@ module _ (limit : ℕ) (inner : Rule → Parser Piece) (nested : Level → Parse
   operands_of next n p ts = operands_from next n (length ts) p ts
 
   unfoldable pub chain_of : ℕ → Parser Piece
-  chain_of zero ts = power_of ts >>= operands_of power_of 3
-  chain_of (suc k) ts = chain_of k ts >>= operands_of (chain_of k) (suc k + 3)
+  chain_of zero ts = power_of ts >>= operands_of (inner power) 3
+  chain_of (suc k) ts = chain_of k ts >>= operands_of (inner (chain k)) (suc k + 3)
 
   abbrev pub has_rank : ℕ → List Token → Bool
   has_rank n [] = false
@@ -241,8 +242,8 @@ module _ (limit : ℕ) (inner : Rule → Parser Piece) (nested : Level → Parse
 
   -- behind an operand of `|`: a chain of `??`, or of `&&` and `||`
   abbrev pub short_by : Bool → Piece → Parser Piece
-  short_by true p ts = operands_of (chain_of 7) 13 p ts
-  short_by false p ts = operands_of (chain_of 7) 11 p ts >>= operands_of (chain_of 8) 12
+  short_by true p ts = operands_of (inner (chain 7)) 13 p ts
+  short_by false p ts = operands_of (inner (chain 7)) 11 p ts >>= operands_of (inner (chain 8)) 12
 
   unfoldable pub short_of : Parser Piece
   short_of ts = chain_of 7 ts >>= λ p mid. short_by (has_rank 13 mid) p mid
