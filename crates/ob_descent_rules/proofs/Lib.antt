@@ -1,0 +1,9 @@
+pub mod Bounds
+pub mod Counts
+pub mod DeclTurns
+pub mod ItemTurns
+pub mod Keeping
+pub mod Levels
+pub mod ListTurns
+pub mod StartTurns
+pub mod Steps

@@ -1,0 +1,7 @@
+pub mod Inside
+pub mod Nests
+pub mod Then
+pub mod Views
+pub mod Turns
+pub mod Starts
+pub mod Beginnings
