@@ -1,0 +1,5 @@
+pub mod BracketTurns
+mod CellTurns
+mod SpecTurns
+pub mod WithinLimits
+pub mod YieldsOf

@@ -1,0 +1,2 @@
+pub mod CellStarts
+pub mod YieldsIn
