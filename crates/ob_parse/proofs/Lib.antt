@@ -1,4 +1,1 @@
-pub mod Again
 pub mod Exact
-pub mod ReadWords
-pub mod Takes

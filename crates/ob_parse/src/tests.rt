@@ -1,39 +1,79 @@
-use crate::parse_cell;
-use ob_tree::{CellTree, Expr, FnBody, Function};
+//! What texts read as, by the canonical text of the tree, and which texts no cell reads.
+
+mod limits;
+mod read;
+mod refused;
+
+use crate::{ParseError, parse_cell};
+use ob_base::NoMemory;
+use ob_tree::print_cell;
+use std::alloc::Global;
 use std::test::Fail;
 
-// The value of a cell that reads.
-fn value_of(tree: CellTree) -> Option<Expr> {
-    match tree {
-        CellTree::Named(_name, function) => {
-            let Function {
-                name: _name,
-                params: _params,
-                generator: _generator,
-                body,
-            } = function;
-            match body {
-                FnBody::Value(value) => Some(value.into_inner()),
-                FnBody::Items(_items) => None,
-            }
+// The text of a row, with its line breaks.
+fn with_breaks(alloc: Global, row: &str) -> Result<String, NoMemory> {
+    let mut text = String::new(alloc);
+    for c in row.chars() {
+        text.push(if c == '@' { '\n' } else { c })?;
+    }
+    Ok(text)
+}
+
+// Whether the text reads as the cell that prints so.
+fn reads(alloc: Global, text: &str, printed: &str) -> Result<bool, NoMemory> {
+    if text.len() > 100_000 {
+        return Ok(false);
+    }
+    match parse_cell(alloc, text) {
+        Ok(cell) => {
+            let shown = print_cell(alloc, &cell)?;
+            Ok(shown.as_str() == printed)
         }
-        _other => None,
+        Err(_) => Ok(false),
     }
 }
 
+// Whether no cell reads the text.
+fn is_refused(alloc: Global, text: &str) -> bool {
+    text.len() <= 100_000 && matches!(parse_cell(alloc, text), Err(ParseError::Syntax))
+}
+
+fn row_reads(alloc: Global, row: &str) -> Result<bool, NoMemory> {
+    let Some((text, printed)) = row.split_once(" # ") else {
+        return Ok(false);
+    };
+    let text = with_breaks(alloc, text)?;
+    reads(alloc, text.as_str(), printed)
+}
+
+fn row_is_refused(alloc: Global, row: &str) -> Result<bool, NoMemory> {
+    let text = with_breaks(alloc, row)?;
+    Ok(is_refused(alloc, text.as_str()))
+}
+
 #[test]
-fn sums_are_read(rt: HostRuntime) -> Result<(), Fail> {
+fn texts_read_as_their_cells(rt: HostRuntime) -> Result<(), Fail> {
     let alloc = rt.alloc();
-    let texts = [
-        "a = 1",
-        "a=1",
-        "abc   =  0 +1+    2",
-        "x9 = y + 1000000",
-        "b = 1 + 2 + 3 + 4 + 5 + 6 + 7 + 8 + 9 + 10",
-        "iff = asd",
+    assert!(rt; reads(alloc, "", "")?);
+    assert!(rt; reads(alloc, " \n// nothing\n", "")?);
+    let tables = [
+        read::CELLS,
+        read::IMPORTS,
+        read::OPERATORS,
+        read::PRIMARIES,
+        read::ARROWS,
+        read::STATEMENTS,
+        read::SEMICOLONS,
     ];
-    for text in texts {
-        assert!(rt; parse_cell(alloc, text).is_ok());
+    for table in tables {
+        let mut rows = table;
+        for _ in 0..table.len() {
+            let Some((row, rest)) = rows.split_once('\n') else {
+                break;
+            };
+            assert!(rt; row_reads(alloc, row)?, "{row}");
+            rows = rest;
+        }
     }
     Ok(())
 }
@@ -41,48 +81,25 @@ fn sums_are_read(rt: HostRuntime) -> Result<(), Fail> {
 #[test]
 fn other_texts_are_refused(rt: HostRuntime) -> Result<(), Fail> {
     let alloc = rt.alloc();
-    let texts = [
-        "",
-        "a",
-        "a =",
-        "= 1",
-        " a = 1",
-        "a = 1 ",
-        "a = 01",
-        "a = 1000001",
-        "a = 1 +",
-        "a = 1 + + 2",
-        "a = b + c",
-        "if = 1",
-        "log = 1",
-        "quot = 1",
-        "a = mod",
-        "9 = 1",
-        "a = 1;",
-        "a = 1\t+ 2",
-        "a = 1 + 1 + 1 + 1 + 1 + 1 + 1 + 1 + 1 + 1 + 1",
-        "a_b = 1",
-        "\u{e9} = 1",
+    assert!(rt; is_refused(alloc, "\u{0}"));
+    let tables = [
+        refused::CELLS,
+        refused::IMPORTS,
+        refused::OPERATORS,
+        refused::PRIMARIES,
+        refused::ARROWS,
+        refused::STATEMENTS,
+        refused::SEMICOLONS,
     ];
-    for text in texts {
-        assert!(rt; parse_cell(alloc, text).is_err());
-    }
-    Ok(())
-}
-
-#[test]
-fn a_sum_is_grouped_to_the_left(rt: HostRuntime) -> Result<(), Fail> {
-    let alloc = rt.alloc();
-    let tree = parse_cell(alloc, "c = 1 + b + 2")?;
-    let Some(value) = value_of(tree) else {
-        return Ok(assert!(rt; false));
-    };
-    match value {
-        Expr::Binary(_op, left, right) => {
-            assert!(rt; matches!(right.get(), Expr::Int(2)));
-            assert!(rt; matches!(left.get(), Expr::Binary(_, _, _)));
+    for table in tables {
+        let mut rows = table;
+        for _ in 0..table.len() {
+            let Some((row, rest)) = rows.split_once('\n') else {
+                break;
+            };
+            assert!(rt; row_is_refused(alloc, row)?, "{row}");
+            rows = rest;
         }
-        _other => assert!(rt; false),
     }
     Ok(())
 }

@@ -11,6 +11,7 @@ pub mod Show
 pub mod Sound
 pub mod Step
 pub mod Stops
+pub mod Sums
 pub mod Trace
 pub mod Value
 pub mod World

@@ -1,5 +1,5 @@
 -- The notebook that a bundle opens, and what a command makes of it (this project).
-use Rattle.std.specs.Prelude.{ℕ, List, [], ◌∷◌, ◌++◌, length, replicate, Bool, true, false, ◌&&◌, ◌||◌, nat_le, bytes_eq, slice_set, Option, Some, None, option_map, option_and_then, Result, Ok, Err, if◌then◌else◌}
+use Rattle.std.specs.Prelude.{ℕ, List, [], ◌∷◌, ◌++◌, length, replicate, Bool, true, false, not, ◌&&◌, ◌||◌, nat_le, bytes_eq, chars, slice_set, Option, Some, None, option_map, option_and_then, Result, Ok, Err, if◌then◌else◌}
 use Rattle.std.specs.List.{list_any, position_from}
 use Rattle.ob_base.specs.declared.cause.Cause.{Cause}
 use Rattle.ob_base.specs.declared.cause.Cause.TheVariants as cause
@@ -8,10 +8,11 @@ use Rattle.ob_base.specs.declared.command.Command.TheVariants as command
 use Rattle.ob_base.specs.declared.command.NewCell.{NewCell}
 use Rattle.ob_tree_types.specs.declared.cell.CellTree.{CellTree}
 use Rattle.ob_tree_types.specs.declared.cell.CellTree.TheVariants as cell
-use Rattle.ob_parse.specs.Reading.{cell_of}
+use Rattle.ob_grammar.specs.ReadingTexts.{text_cell}
 use Rattle.ob_session.specs.declared.world.Cell.{Cell}
 use Rattle.ob_session.specs.declared.world.World.{World}
 use Rattle.ob_session.specs.Names.{function_name}
+use Rattle.ob_session.specs.Sums.{is_sum, is_taken}
 
 abbrev pub has_id : List Cell → List ℕ → Bool
 has_id cells id = list_any (λ c. bytes_eq c.id id) cells
@@ -34,12 +35,16 @@ resolved cells (Some x) = option_map (λ p. Some p) (place_of_name cells x)
 -- the cell of a tree behind these; none where it is not built
 abbrev pub cell_behind : List Cell → List ℕ → CellTree → Option Cell
 cell_behind cells id (cell.Named name body) =
-    if has_id cells id || has_name cells name then None
+    if is_taken name || not (is_sum body) || has_id cells id || has_name cells name then None
     else option_map (λ input. record { id = id; name = name; body = body; input = input }) (resolved cells (function_name body))
 cell_behind cells id other = None
 
+-- the most bytes of a cell's text
+abbrev pub text_limit : ℕ
+text_limit = 65536
+
 abbrev pub cell_from : List Cell → NewCell → Option Cell
-cell_from cells new = option_and_then (cell_behind cells new.id) (cell_of new.text)
+cell_from cells new = if nat_le (length new.text) text_limit then option_and_then (cell_behind cells new.id) (text_cell (chars new.text)) else None
 
 -- the cells of a list behind these; none where one is not built
 abbrev pub cells_from : List Cell → List NewCell → Option (List Cell)

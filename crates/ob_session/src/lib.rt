@@ -12,6 +12,7 @@ mod report;
 mod run;
 mod session;
 mod show;
+mod sums;
 mod value;
 mod world;
 

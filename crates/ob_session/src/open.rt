@@ -6,11 +6,15 @@ ghost use Rattle.ob_session.specs.World.{has_id, has_name, place_of_name, resolv
 ghost use Rattle.ob_session.specs.Sound.{IsSound};
 
 use crate::names::function_name;
+use crate::sums::{is_sum, is_taken};
 use crate::world::{Cell, World};
 use ob_base::{Command, List, NewCell, NoMemory, Text};
 use ob_parse::{ParseError, parse_cell};
 use ob_tree::CellTree;
 use std::alloc::{AllocError, Global};
+
+/// The most bytes of a cell's text.
+const TEXT_LIMIT: usize = 65_536;
 
 /// Why a bundle opened no world.
 #[derive(Clone, Copy, Debug, PartialEq, Eq)]
@@ -88,6 +92,9 @@ fn cell_behind(cells: &[Cell], id: Text, tree: CellTree) -> Option<Cell>
     let CellTree::Named(name, body) = tree else {
         return None;
     };
+    if is_taken(name.as_str()) || !is_sum(&body) {
+        return None;
+    }
     if has_id(cells, id.as_str()) || has_name(cells, name.as_str()) {
         return None;
     }
@@ -106,7 +113,11 @@ fn cell_from(alloc: Global, cells: &[Cell], new: &NewCell) -> Result<Cell, OpenE
     ensures value { Gives result (cell_from cells.now new.now) }
     ensures within { IfOk result (λ cell. IfSome cell.input (λ place. place < length cells.now)) }
 {
-    match parse_cell(alloc, new.text.as_str()) {
+    let text = new.text.as_str();
+    if text.len() > TEXT_LIMIT {
+        return Err(OpenError::NotBuilt);
+    }
+    match parse_cell(alloc, text) {
         Ok(tree) => match cell_behind(cells, new.id.copy(alloc)?, tree) {
             Some(cell) => Ok(cell),
             None => Err(OpenError::NotBuilt),
@@ -167,8 +178,8 @@ fn world_of_notebook(
 ///
 /// # Errors
 /// `NotBuilt` exactly where they are something else than one notebook, the main one, with at most
-/// 1,000 cells of distinct ids and names that are sums over names of cells before them; `NoMemory`
-/// where an allocation is refused.
+/// 1,000 cells of distinct ids and names that are sums over names of cells before them, or where a
+/// text has more than 65,536 bytes; `NoMemory` where an allocation is refused.
 #[tactic(auto, unfolding(crate::specs::World::world_of))]
 pub fn open_world(alloc: Global, main: &Text, notebooks: &[Command]) -> Result<World, OpenError>
     ensures value { Gives result (world_of main.now notebooks.now) }

@@ -180,6 +180,75 @@ fn refused_bundles(rt: HostRuntime) -> Result<(), Fail> {
     )
 }
 
+// Whether a notebook of `a = 1` and a second cell of this text opens.
+fn opens(alloc: Global, text: &str) -> Result<bool, Fail> {
+    let input = joined(
+        alloc,
+        &[
+            "{\"version\":1,\"main\":\"m\",\"notebooks\":[{\"id\":\"m\",\"cells\":[{\"id\":\"1\",\"text\":\"a = 1\"},{\"id\":\"2\",\"text\":\"",
+            text,
+            "\"}]}]}",
+        ],
+    )?;
+    let (exit, _sink) = session(alloc, &input, 1_000, 0, 0)?;
+    Ok(exit == Exit::Done)
+}
+
+#[test]
+fn cells_that_are_sums_open(rt: HostRuntime) -> Result<(), Fail> {
+    let alloc = rt.alloc();
+    let sums = [
+        "b = a",
+        "b=2",
+        " b = 1 ;",
+        "b /* two */ = 1 + 2 // three",
+        "b =\\n1",
+        "b = 0x10 + a + 1_000_000",
+        "b = (1 + a) + 2",
+        "b = ((3))",
+        "b = 1 + 1 + 1 + 1 + 1 + 1 + 1 + 1 + 1 + 1",
+        "$b = 1",
+        "b_1 = 1",
+        "\u{e9} = 1",
+        "lets = a",
+    ];
+    for text in sums {
+        assert!(rt; opens(alloc, text)?, "{text}");
+    }
+    let others = [
+        "",
+        "a",
+        "1 + a",
+        "b",
+        "b =",
+        "b = c",
+        "b = b",
+        "a = 2",
+        "b = a + a",
+        "b = 1 + (2 + 3)",
+        "b = 1 - 2",
+        "b = -1",
+        "b = 01",
+        "b = 1000001",
+        "b = true",
+        "b = () => 1",
+        "b = {return 1;}",
+        "b = 1 + 1 + 1 + 1 + 1 + 1 + 1 + 1 + 1 + 1 + 1",
+        "viewof b = 1",
+        "mutable b = 1",
+        "function b() {}",
+        "let = 1",
+        "log = 1",
+        "quot = 1",
+        "b = 1 2",
+        "b = 1 + @",
+    ];
+    for text in others {
+        assert!(rt; !opens(alloc, text)?, "{text}");
+    }
+    Ok(())
+}
+
 #[test]
 fn refused_commands(rt: HostRuntime) -> Result<(), Fail> {
     let alloc = rt.alloc();
