@@ -49,6 +49,7 @@ fn start<L: Ledger, S: Source, K: Sink>(
 }
 
 // The session over standard input and output, with the host functions of notebooks.
+#[tactic(auto, unfolding(ob_hosts::specs::Names::host_name))]
 fn run(rt: &HostRuntime, words: &[String]) -> Result<Exit, NoMemory> {
     let alloc = rt.alloc();
     let quot = |a: i64, b: i64| -> Option<i64>
@@ -84,25 +85,25 @@ fn run(rt: &HostRuntime, words: &[String]) -> Result<Exit, NoMemory> {
         ensures { result ≡ host_value HostCode.Clamp0 a _b }
     { Some(a.max(0)) };
     let quot = HostFn::new(
-        text(alloc, "quot")?,
+        text(alloc, HostCode::Quot.name())?,
         2,
         HostCode::Quot,
         Box::new(alloc, quot)?,
     );
     let floor_div = HostFn::new(
-        text(alloc, "floordiv")?,
+        text(alloc, HostCode::FloorDiv.name())?,
         2,
         HostCode::FloorDiv,
         Box::new(alloc, floor_div)?,
     );
     let floor_mod = HostFn::new(
-        text(alloc, "mod")?,
+        text(alloc, HostCode::Mod.name())?,
         2,
         HostCode::Mod,
         Box::new(alloc, floor_mod)?,
     );
     let clamp = HostFn::new(
-        text(alloc, "clamp0")?,
+        text(alloc, HostCode::Clamp0.name())?,
         1,
         HostCode::Clamp0,
         Box::new(alloc, clamp)?,

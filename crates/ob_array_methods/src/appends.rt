@@ -7,9 +7,8 @@ ghost use Rattle.ob_values.specs.Fixed.{KeepsFixed};
 ghost use Rattle.ob_values.specs.Sound.{KeepsSound, pointers_of};
 ghost use Rattle.ob_values.specs.Store.{elements_in, is_frozen, read_item};
 
-use crate::arguments::elements_of;
 use ob_base::NoMemory;
-use ob_values::{Done, OpError, Ref, Regions, SetError, Thrown, Value};
+use ob_values::{Done, OpError, Ref, Regions, SetError, Thrown, Value, elements_of};
 
 // Appends a value to an array that is not frozen, where its region has room for it.
 fn append(regions: &mut Regions, receiver: Ref, value: Value) -> Result<(), NoMemory>

@@ -8,10 +8,11 @@ ghost use Rattle.ob_values.specs.Operators.{AddsValue};
 ghost use Rattle.ob_values.specs.Sound.{AsValue, pointers_of};
 ghost use Rattle.ob_values.specs.Store.{IsOpen};
 
-use crate::arguments::{array_of, elements_of};
 use crate::making::give_array;
 use ob_base::{List, MAX_REGION_ELEMENTS, NoMemory};
-use ob_values::{Done, OpError, Ref, RegionKey, Regions, Thrown, Value, places_of};
+use ob_values::{
+    Done, OpError, Ref, RegionKey, Regions, Thrown, Value, array_of, elements_of, places_of,
+};
 use std::alloc::Global;
 
 // What stands from the first place up to before the second.

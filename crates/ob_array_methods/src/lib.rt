@@ -2,7 +2,6 @@
 #![tactic(auto)]
 
 mod appends;
-mod arguments;
 mod copies;
 mod making;
 mod objects;

@@ -9,8 +9,7 @@ ghost use Rattle.ob_values.specs.Sound.{AsValue};
 ghost use Rattle.ob_values.specs.Store.{read_item};
 ghost use Rattle.std.specs.Result.{result_map_both};
 
-use crate::arguments::elements_of;
-use ob_values::{Done, OpError, Ref, Regions, Thrown, Value};
+use ob_values::{Done, OpError, Ref, Regions, Thrown, Value, elements_of};
 
 /// Puts the elements of an array in the opposite order and gives the array (ECMA-262,
 /// "Array.prototype.reverse"). It takes as many steps as the array has elements, and no memory.

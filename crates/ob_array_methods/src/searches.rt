@@ -1,14 +1,15 @@
 //! What is asked of an array, and of a value whether it is one.
 ghost use Rattle.std.specs.Prelude.{◌≡◌, ◌<◌, ◌^◌, ◌∷◌, [], IfOk, IfSome};
-ghost use Rattle.ob_values.specs.ArrayMethods.{place_among, found, index_of, includes};
+ghost use Rattle.ob_values.specs.ArrayMethods.{place_among, index_of, includes};
 ghost use Rattle.ob_values.specs.Effects.{answer_of, done_of};
 ghost use Rattle.ob_values.specs.ObjectFunctions.{is_array};
 ghost use Rattle.ob_values.specs.Sound.{pointers_of};
 ghost use Rattle.ob_values.specs.Store.{IsOpen};
 ghost use Rattle.std.specs.Result.{result_map_both};
 
-use crate::arguments::{array_of, elements_of};
-use ob_values::{Done, OpError, Ref, RegionKey, Regions, Value, argument};
+use ob_values::{
+    Done, OpError, Ref, RegionKey, Regions, Value, argument, array_of, elements_of, found,
+};
 
 // The first place of an element that is the same as the value by `===`.
 fn place_among(regions: &Regions, receiver: Ref, value: Value) -> Option<usize>
@@ -18,17 +19,6 @@ fn place_among(regions: &Regions, receiver: Ref, value: Value) -> Option<usize>
     elements_of(regions, receiver)
         .iter()
         .position(|x| regions.same(*x, value))
-}
-
-// A place that was found, or -1.
-fn found(place: Option<usize>) -> Value
-    requires { IfSome place (λ p. p < 2 ^ 63) }
-    ensures { result ≡ found place }
-{
-    match place {
-        Some(place) => Value::Int(place as i64),
-        None => Value::Int(-1),
-    }
 }
 
 /// The first place of the first argument among the elements by `===`, or -1 (ECMA-262,

@@ -2,9 +2,10 @@ use crate::{
     concat, entries, has_own, includes, index_of, is_array, keys, pop, push, reverse, shift, slice,
     values,
 };
-use ob_base::NoMemory;
-use ob_items::units_of;
-use ob_values::{AllocError, Done, OpError, Ref, RegionKey, Regions, SetError, Thrown, Value};
+use ob_base::{NoMemory, Units};
+use ob_values::{
+    AllocError, Done, OpError, Ref, RegionKey, Regions, SetError, Thrown, Value, array_of,
+};
 use std::alloc::Global;
 use std::test::Fail;
 
@@ -86,7 +87,7 @@ fn freeze(regions: &mut Regions, r: Ref) -> Result<(), NoMemory> {
 }
 
 fn are(regions: &Regions, value: Value, numbers: &[i64]) -> bool {
-    match crate::arguments::array_of(regions, value) {
+    match array_of(regions, value) {
         Some(values) => {
             values.len() == numbers.len()
                 && values
@@ -180,7 +181,7 @@ fn put(
     key: &str,
     value: Value,
 ) -> Result<(), SetError> {
-    let key = units_of(alloc, key.as_bytes())?;
+    let key = Units::from_bytes(alloc, key.as_bytes())?;
     if regions.is_object(r) {
         regions.set_key(r, &key, value)
     } else {
@@ -194,7 +195,7 @@ fn text(
     key: RegionKey,
     text: &str,
 ) -> Result<Value, NoMemory> {
-    let units = units_of(alloc, text.as_bytes())?;
+    let units = Units::from_bytes(alloc, text.as_bytes())?;
     if regions.is_open(key) {
         Ok(Value::Ref(regions.literal(key, units.as_slice())?))
     } else {
@@ -270,7 +271,7 @@ fn keys_are_listed(rt: HostRuntime) -> Result<(), Fail> {
         keys(alloc, &mut regions, key, &[b], 9) == Err(OpError::Throws(Thrown::BadArgument))
     );
     match keys(alloc, &mut regions, key, &[Value::Ref(r)], 3) {
-        Ok(made) => match crate::arguments::array_of(&regions, made.value) {
+        Ok(made) => match array_of(&regions, made.value) {
             Some(listed) => assert!(rt; made.steps == 0 && listed == [one, b].as_slice()),
             None => assert!(rt; false),
         },
@@ -310,7 +311,7 @@ fn arrays_are_put_together(rt: HostRuntime) -> Result<(), Fail> {
 }
 
 fn is_pair(regions: &Regions, pair: Value, key: Value, value: Value) -> bool {
-    match crate::arguments::array_of(regions, pair) {
+    match array_of(regions, pair) {
         Some(values) => values == [key, value].as_slice(),
         None => false,
     }
@@ -331,7 +332,7 @@ fn entries_are_listed(rt: HostRuntime) -> Result<(), Fail> {
     assert!(rt; regions.is_open(key));
     assert!(rt; entries(alloc, &mut regions, key, &args, 8) == Err(OpError::StepsOut));
     match entries(alloc, &mut regions, key, &args, 9) {
-        Ok(made) => match crate::arguments::array_of(&regions, made.value) {
+        Ok(made) => match array_of(&regions, made.value) {
             Some([first, second]) => {
                 assert!(rt; is_pair(&regions, *first, one, Value::Int(2)));
                 assert!(rt; is_pair(&regions, *second, b, Value::Int(1)));

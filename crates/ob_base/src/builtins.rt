@@ -23,7 +23,8 @@ pub fn is_builtin_name(name: &str) -> bool
     is_among(&BUILTIN_NAMES, name)
 }
 
-fn is_among(names: &[&str], name: &str) -> bool
+/// Whether a name is one of these.
+pub fn is_among(names: &[&str], name: &str) -> bool
     ensures { result ≡ list_any (λ n. bytes_eq n.now name.now) names.now }
 {
     names.iter().any(|n| *n == name)

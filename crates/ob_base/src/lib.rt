@@ -19,7 +19,7 @@ mod steps;
 mod text;
 mod units;
 
-pub use builtins::{BUILTIN_NAMES, is_builtin_name};
+pub use builtins::{BUILTIN_NAMES, is_among, is_builtin_name};
 pub use cause::Cause;
 pub use command::{Command, NewCell};
 pub use escapes::{is_ascii_word, put_ascii, put_units};

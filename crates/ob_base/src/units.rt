@@ -1,4 +1,6 @@
 ghost use Rattle.std.specs.Prelude.{◌≡◌, [], ◌∷◌, ◌++◌, IfOk, OnOk, OnErr};
+ghost use Rattle.std.specs.Char.Escape.{encode_utf16};
+ghost use Rattle.ob_base.specs.Utf16.{utf16};
 
 use crate::NoMemory;
 use std::alloc::Global;
@@ -34,6 +36,34 @@ impl Units {
         ensures { result ≡ items.items }
     {
         Units { items }
+    }
+
+    /// The UTF-16 code units of a text.
+    ///
+    /// # Errors
+    /// `NoMemory` where an allocation is refused.
+    pub fn from_str(alloc: Global, text: &str) -> Result<Units, NoMemory>
+        ensures { IfOk result (λ units. units ≡ utf16 text.now) }
+    {
+        let mut units = Units::new(alloc);
+        for c in text.chars() {
+            push_char(&mut units, c)?;
+        }
+        Ok(units)
+    }
+
+    /// The text whose units are these bytes, one each.
+    ///
+    /// # Errors
+    /// `NoMemory` where an allocation is refused.
+    pub fn from_bytes(alloc: Global, bytes: &[u8]) -> Result<Units, NoMemory>
+        ensures { IfOk result (λ units. units ≡ bytes.now) }
+    {
+        let mut units = Units::new(alloc);
+        for byte in bytes {
+            units.push(u16::from(*byte))?;
+        }
+        Ok(units)
     }
 
     /// The units, given up.
@@ -74,4 +104,15 @@ impl Units {
             items: Vec::from_slice(alloc, self.items.as_slice())?,
         })
     }
+}
+
+// Adds the units of a character; where an allocation is refused, the first of two may be there.
+fn push_char(units: &mut Units, c: char) -> Result<(), NoMemory>
+    ensures { OnOk result (units.new ≡ units.old ++ encode_utf16 c) }
+{
+    let mut pair = [0u16; 2];
+    for unit in c.encode_utf16(&mut pair).iter() {
+        units.push(*unit)?;
+    }
+    Ok(())
 }

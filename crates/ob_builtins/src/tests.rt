@@ -4,7 +4,7 @@ mod words;
 
 use crate::{find_method, find_property};
 use answers::{function_answer, method_answer};
-use ob_items::units_of;
+use ob_base::Units;
 use ob_values::{ErrorKind, Kind};
 use std::test::Fail;
 
@@ -28,7 +28,7 @@ fn methods_have_numbers(rt: HostRuntime) -> Result<(), Fail> {
         (Kind::Closure, "next", None),
         (Kind::Error(ErrorKind::Error), "slice", None),
     ] {
-        let name = units_of(rt.alloc(), name.as_bytes())?;
+        let name = Units::from_bytes(rt.alloc(), name.as_bytes())?;
         assert_eq!(rt; find_method(kind, &name), number);
     }
     Ok(())
@@ -47,7 +47,7 @@ fn functions_have_numbers(rt: HostRuntime) -> Result<(), Fail> {
         (2, "of", None),
         (3, "min", None),
     ] {
-        let name = units_of(rt.alloc(), name.as_bytes())?;
+        let name = Units::from_bytes(rt.alloc(), name.as_bytes())?;
         assert_eq!(rt; find_property(builtin, &name), number);
     }
     Ok(())

@@ -1,56 +1,21 @@
 //! Words, keys and literals.
 
-ghost use Rattle.std.specs.Prelude.{◌≡◌, ◌++◌, None, IfOk, OnOk, string_bytes};
-ghost use Rattle.std.specs.Char.Escape.{encode_utf16};
+ghost use Rattle.std.specs.Prelude.{◌≡◌, IfOk};
 ghost use Rattle.std.specs.Fmt.{signed_decimal};
 ghost use Rattle.ob_grammar.specs.Marks as marks;
 ghost use Rattle.ob_grammar.specs.Taking as taking;
-ghost use Rattle.ob_base.specs.Utf16 as texts;
-ghost use Rattle.ob_lex.specs.declared.token.TokenKind.{TokenKind};
 
 use ob_base::{NoMemory, ReservedWord, Text, Units};
 use ob_lex::TokenKind;
 use ob_tree_types::Expr;
 use std::alloc::Global;
 
-fn push_char(units: &mut Units, c: char) -> Result<(), NoMemory>
-    ensures { OnOk result (units.new ≡ units.old ++ encode_utf16 c) }
-{
-    let mut pair = [0u16; 2];
-    for unit in c.encode_utf16(&mut pair).iter() {
-        units.push(*unit)?;
-    }
-    Ok(())
-}
-
-/// The UTF-16 code units of a text.
-fn utf16(alloc: Global, text: &str) -> Result<Units, NoMemory>
-    ensures { IfOk result (λ units. units ≡ texts.utf16 text.now) }
-{
-    let mut units = Units::new(alloc);
-    for c in text.chars() {
-        push_char(&mut units, c)?;
-    }
-    Ok(units)
-}
-
-/// The units that are these bytes, one each.
-fn units_of(alloc: Global, bytes: &[u8]) -> Result<Units, NoMemory>
-    ensures { IfOk result (λ units. units ≡ bytes.now) }
-{
-    let mut units = Units::new(alloc);
-    for byte in bytes {
-        units.push(u16::from(*byte))?;
-    }
-    Ok(units)
-}
-
 fn decimal(alloc: Global, value: i64) -> Result<Units, NoMemory>
     ensures { IfOk result (λ units. units ≡ signed_decimal value) }
 {
     let mut digits = String::new(alloc);
     write!(&mut digits, "{value}")?;
-    units_of(alloc, digits.as_str().as_bytes())
+    Units::from_bytes(alloc, digits.as_str().as_bytes())
 }
 
 /// The name or reserved word that a token is.
@@ -74,8 +39,8 @@ pub fn key_of(alloc: Global, kind: &TokenKind) -> Result<Option<Units>, NoMemory
     ensures { IfOk result (λ key. key ≡ marks.key_of kind.now) }
 {
     match kind {
-        TokenKind::Name(name) => Ok(Some(utf16(alloc, name.as_str())?)),
-        TokenKind::Reserved(word) => Ok(Some(units_of(alloc, word.as_str().as_bytes())?)),
+        TokenKind::Name(name) => Ok(Some(Units::from_str(alloc, name.as_str())?)),
+        TokenKind::Reserved(word) => Ok(Some(Units::from_bytes(alloc, word.as_str().as_bytes())?)),
         TokenKind::Number(value) => Ok(Some(decimal(alloc, *value)?)),
         TokenKind::Text(units) => Ok(Some(units.copy(alloc)?)),
         TokenKind::Punctuator(_) => Ok(None),

@@ -1,6 +1,7 @@
 ghost use Rattle.std.specs.Prelude.{◌≡◌, ◌⊎◌, ℤ, Option, false};
 ghost use Rattle.ob_base.specs.Builtins.{is_builtin_name};
 ghost use Rattle.ob_base.specs.Integers.{InRange};
+ghost use Rattle.ob_hosts.specs.Names.{host_name, is_host_name};
 ghost use Rattle.ob_hosts.specs.Value.{host_value};
 
 use ob_base::Text;
@@ -16,6 +17,36 @@ pub enum HostCode {
     Mod,
     /// The greater of the first number and 0.
     Clamp0,
+}
+
+/// The codes, each once.
+const HOST_CODES: [HostCode; 4] = [
+    HostCode::Quot,
+    HostCode::FloorDiv,
+    HostCode::Mod,
+    HostCode::Clamp0,
+];
+
+impl HostCode {
+    /// The name by which a notebook calls the host function (this project).
+    #[tactic(auto, unfolding(crate::specs::Names::host_name))]
+    pub fn name(self) -> &'static str
+        ensures { result.now ≡ host_name self }
+    {
+        match self {
+            HostCode::Quot => "quot",
+            HostCode::FloorDiv => "floordiv",
+            HostCode::Mod => "mod",
+            HostCode::Clamp0 => "clamp0",
+        }
+    }
+}
+
+/// Whether a name is that of a host function.
+pub fn is_host_name(name: &str) -> bool
+    ensures { result ≡ is_host_name name.now }
+{
+    HOST_CODES.iter().any(|code| code.name() == name)
 }
 
 /// The closure of a host function, over two numbers; none where there is no value.

@@ -5,7 +5,7 @@
 mod host_fn;
 mod table;
 
-pub use host_fn::{HostCall, HostCode, HostFn};
+pub use host_fn::{HostCall, HostCode, HostFn, is_host_name};
 pub use table::{HostError, HostTable};
 
 #[cfg(test)]

@@ -6,7 +6,6 @@ use crate::item::{error_name, error_parts};
 use crate::print::inspect;
 use crate::quoted::put_message;
 use ob_base::{Limit, NoMemory, Text, Units};
-use ob_items::units_of;
 use ob_values::{Failure, Regions, Value};
 use std::alloc::Global;
 
@@ -86,6 +85,9 @@ pub fn failure_message(
             Some((_, message)) => Ok(Some(Units::from_vec(Vec::from_slice(alloc, message)?))),
             None => Ok(None),
         },
-        Failure::Limit(limit) => Ok(Some(units_of(alloc, limit_message(*limit).as_bytes())?)),
+        Failure::Limit(limit) => Ok(Some(Units::from_bytes(
+            alloc,
+            limit_message(*limit).as_bytes(),
+        )?)),
     }
 }

@@ -72,21 +72,7 @@ pub fn decimal_units(alloc: Global, number: u64) -> Result<Units, NoMemory>
     ensures { IfOk result (λ units. units ≡ decimal number) }
 {
     let mut buffer = Buffer::new();
-    units_of(alloc, buffer.format(number).as_bytes())
-}
-
-/// The text whose units are these bytes.
-///
-/// # Errors
-/// `NoMemory` where an allocation is refused.
-pub fn units_of(alloc: Global, bytes: &[u8]) -> Result<Units, NoMemory>
-    ensures { IfOk result (λ units. units ≡ bytes.now) }
-{
-    let mut units = Units::new(alloc);
-    for byte in bytes {
-        units.push(u16::from(*byte))?;
-    }
-    Ok(units)
+    Units::from_bytes(alloc, buffer.format(number).as_bytes())
 }
 
 /// The decimal text of an integer, with a minus sign where it is below 0 (ECMA-262,
@@ -98,5 +84,5 @@ pub fn integer_units(alloc: Global, number: i64) -> Result<Units, NoMemory>
     ensures { IfOk result (λ units. units ≡ signed_decimal number) }
 {
     let mut buffer = Buffer::new();
-    units_of(alloc, buffer.format(number).as_bytes())
+    Units::from_bytes(alloc, buffer.format(number).as_bytes())
 }

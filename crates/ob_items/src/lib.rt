@@ -17,7 +17,7 @@ mod writes;
 pub use binding::Binding;
 pub use error::{AllocError, Failure, HookError, OpError, PlainError, SetError, TextError};
 pub use frame::{Catch, Frame, Taken};
-pub use index_text::{decimal_units, index_of, integer_units, units_of};
+pub use index_text::{decimal_units, index_of, integer_units};
 pub use item::{Body, Closure, Item, Suspended};
 pub use properties::{Properties, Property};
 pub use region::Region;

@@ -1,6 +1,5 @@
-use crate::{
-    ErrorKind, Properties, Thrown, Value, decimal_units, index_of, integer_units, units_of,
-};
+use crate::{ErrorKind, Properties, Thrown, Value, decimal_units, index_of, integer_units};
+use ob_base::Units;
 use std::test::Fail;
 
 #[test]
@@ -15,7 +14,7 @@ fn index_texts_are_told(rt: HostRuntime) -> Result<(), Fail> {
         ("", None),
         ("99999999999", None),
     ] {
-        let units = units_of(alloc, text.as_bytes())?;
+        let units = Units::from_bytes(alloc, text.as_bytes())?;
         assert_eq!(rt; index_of(units.as_slice()), index);
     }
     let max = decimal_units(alloc, 4_294_967_294)?;

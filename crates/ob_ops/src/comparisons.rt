@@ -1,9 +1,8 @@
 ghost use Rattle.std.specs.Prelude.{◌≡◌};
 ghost use Rattle.ob_values.specs.Operators.{is_truthy, order_of, compares, compare_result};
 
-use crate::texts::stored;
 use ob_base::CompareOp;
-use ob_values::{Regions, Thrown, Value};
+use ob_values::{Regions, Thrown, Value, text_in};
 use std::cmp::Ordering;
 
 // The order of two numbers, or of two texts by their units; none for other values.
@@ -13,7 +12,7 @@ fn order(regions: &Regions, a: Value, b: Value) -> Option<Ordering>
     if let (Value::Int(x), Value::Int(y)) = (a, b) {
         return Some(x.cmp(&y));
     }
-    match (stored(regions, a), stored(regions, b)) {
+    match (text_in(regions, a), text_in(regions, b)) {
         (Some(x), Some(y)) => Some(x.cmp(y)),
         _ => None,
     }
@@ -58,7 +57,7 @@ pub fn is_truthy(regions: &Regions, a: Value) -> bool
         Value::Bool(b) => b,
         Value::Int(n) => n != 0,
         Value::Builtin(_) => true,
-        Value::Ref(_) => match stored(regions, a) {
+        Value::Ref(_) => match text_in(regions, a) {
             Some(units) => !units.is_empty(),
             None => true,
         },

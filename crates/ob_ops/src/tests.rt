@@ -1,6 +1,5 @@
 use crate::{TypeName, binary, compare, is_truthy, type_of, unary};
 use ob_base::{BinaryOp, CompareOp, MAX_INTEGER, NoMemory, UnaryOp, Units};
-use ob_items::units_of;
 use ob_values::{AllocError, CodeKey, ErrorKind, OpError, Ref, RegionKey, Regions, Thrown, Value};
 use std::alloc::Global;
 use std::test::Fail;
@@ -55,7 +54,7 @@ fn text(
     key: RegionKey,
     text: &str,
 ) -> Result<Value, AllocError> {
-    let units = units_of(alloc, text.as_bytes())?;
+    let units = Units::from_bytes(alloc, text.as_bytes())?;
     units_text(regions, key, units.as_slice())
 }
 
@@ -152,7 +151,7 @@ fn kinds(alloc: Global, regions: &mut Regions, key: RegionKey) -> Result<[Value;
 }
 
 fn units(alloc: Global, text: &str) -> Result<Units, NoMemory> {
-    units_of(alloc, text.as_bytes())
+    Units::from_bytes(alloc, text.as_bytes())
 }
 
 fn has_units(regions: &Regions, value: Value, units: &[u16]) -> bool {

@@ -1,30 +1,12 @@
-ghost use Rattle.std.specs.Prelude.{◌≡◌, ◌++◌, ◌⊎◌, IfSome, IfOk, IsSome, Some, Err, ok_or};
-ghost use Rattle.std.specs.Option.{option_copied};
+ghost use Rattle.std.specs.Prelude.{◌≡◌, ◌++◌, ◌⊎◌, IfOk, IsSome, Some, Err, ok_or};
 ghost use Rattle.std.specs.Result.{result_map_both};
-ghost use Rattle.ob_values.specs.Operators.{text_in, joined, text_sum, charged, Text as made_text};
+ghost use Rattle.ob_values.specs.Operators.{joined, text_sum, charged, Text as made_text};
 ghost use Rattle.ob_values.specs.Store.{IsOpen, elements_in};
 ghost use Rattle.ob_values.specs.Values.{string_of};
 
 use ob_base::{MAX_TEXT_UNITS, NoMemory, Units};
-use ob_values::{Body, OpError, RegionKey, Regions, TextError, Thrown, Value, text_elements};
+use ob_values::{OpError, RegionKey, Regions, TextError, Thrown, Value, text_elements, text_in};
 use std::alloc::Global;
-
-/// The units of a value that is a text.
-pub fn stored(regions: &Regions, value: Value) -> Option<&[u16]>
-    ensures value { option_copied result ≡ text_in regions.now value }
-    ensures text { IfSome result (λ units. string_of regions.now value ≡ Some units.now) }
-{
-    match value {
-        Value::Ref(r) => match regions.find(r) {
-            Some(item) => match &item.body {
-                Body::Text(units) => Some(units.as_slice()),
-                _ => None,
-            },
-            None => None,
-        },
-        _ => None,
-    }
-}
 
 // The text of a number, a boolean, null or undefined.
 fn written(regions: &Regions, value: Value) -> Result<Units, OpError>
@@ -94,7 +76,7 @@ pub fn sum(
     ensures value { (result ≡ Err OpError.NoMemory) ⊎ (result_map_both made_text (λ e. e) result ≡ charged (elements_in regions.now region) left (text_sum (joined regions.now a b))) }
     ensures memory { result ≡ Err OpError.NoMemory → IsSome (joined regions.now a b) }
 {
-    match (stored(regions, a), stored(regions, b)) {
+    match (text_in(regions, a), text_in(regions, b)) {
         (Some(first), Some(second)) => join(alloc, regions, region, first, second, left),
         (Some(first), None) => {
             let second = written(regions, b)?;

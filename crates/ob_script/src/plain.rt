@@ -1,5 +1,4 @@
-ghost use Rattle.std.specs.Prelude.{◌≡◌, ◌++◌, true, map, IfOk, OnOk};
-ghost use Rattle.std.specs.Char.Escape.{encode_utf16};
+ghost use Rattle.std.specs.Prelude.{◌≡◌, true, map, IfOk};
 ghost use Rattle.serde_json.specs.View.{view, number_view, items_view, members_view};
 ghost use Rattle.ob_base.specs.PlainData.{are_all};
 ghost use Rattle.ob_script.specs.Forms.{is_text, is_readable, is_object, readable_prop};
@@ -15,27 +14,13 @@ use ob_base::{Cause, List, MAX_INTEGER, NoMemory, Plain, PlainProp, Units};
 use serde_json::{Map, Number, Value};
 use std::alloc::Global;
 
-fn push_char(units: &mut Units, c: char) -> Result<(), NoMemory>
-    ensures { OnOk result (units.new ≡ units.old ++ encode_utf16 c) }
-{
-    let mut pair = [0u16; 2];
-    for unit in c.encode_utf16(&mut pair).iter() {
-        units.push(*unit)?;
-    }
-    Ok(())
-}
-
 /// The UTF-16 code units of a text.
 fn units_of(alloc: Global, text: &str) -> Result<Units, NoMemory>
     ensures units { IfOk result (λ units. units ≡ utf16 text.now) }
     ensures text { IfOk result (λ units. is_text units ≡ true) }
     ensures bytes { IfOk result (λ units. utf8 units ≡ text.now) }
 {
-    let mut units = Units::new(alloc);
-    for c in text.chars() {
-        push_char(&mut units, c)?;
-    }
-    Ok(units)
+    Units::from_str(alloc, text)
 }
 
 #[tactic(auto, unfolding(crate::specs::Inputs::integer_of))]

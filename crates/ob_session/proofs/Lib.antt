@@ -7,3 +7,4 @@ pub mod Marks
 pub mod Next
 pub mod Sounds
 pub mod Steps
+pub mod Through

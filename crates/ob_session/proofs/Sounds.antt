@@ -1,10 +1,11 @@
 -- What holds of every world goes on to hold.
-use Rattle.std.proofs.Common.{◌≡◌, ◌<◌, ◌⊎◌, inl, inr, ℕ, zero, suc, ◌+◌, List, [], ◌∷◌, ◌++◌, length, map, Bool, None, Some, refl, sym, ap, arith, subst}
+use Rattle.std.proofs.Common.{◌≡◌, ◌<◌, ◌⊎◌, inl, inr, ℕ, zero, suc, ◌+◌, List, [], ◌∷◌, ◌++◌, length, map, Bool, None, Some, refl, sym, ap, ◌∙◌, arith, subst}
 use Rattle.std.proofs.lemmas.List.{map-append, length-map}
 use Rattle.std.specs.Prelude.{slice_get, IfSome}
 use Rattle.std.specs.declared.option.Option.{Option}
 use Rattle.ob_session.specs.declared.world.Cell.{Cell}
 use Rattle.ob_session.specs.Inputs.{IsBuiltUp}
+use Rattle.ob_session.specs.Known.{names_of}
 use Rattle.ob_session.specs.Live.{live_from}
 
 -- there is a flag for each cell
@@ -33,3 +34,9 @@ pub built_up_push : (cells : List Cell) (c : Cell) → IsBuiltUp (map (λ (x : C
 built_up_push cells c b h =
     subst IsBuiltUp (sym (map-append (λ (x : Cell). x.input) cells (c ∷ [])))
     (built_up_end (map (λ (x : Cell). x.input) cells) c.input b (subst (λ n. IfSome c.input (λ place. place < n)) (sym (length-map cells (λ (x : Cell). x.input))) h))
+
+-- the ids and names with those of one more
+pub names_push : (cells : List Cell) (c : Cell) → names_of (cells ++ c ∷ []) ≡ record { ids = map (λ (x : Cell). x.id) cells ++ c.id ∷ []; names = map (λ (x : Cell). x.name) cells ++ c.name ∷ [] }
+names_push cells c =
+    ap (λ l. record { ids = l; names = map (λ (x : Cell). x.name) (cells ++ c ∷ []) }) (map-append (λ (x : Cell). x.id) cells (c ∷ []))
+    ∙ ap (λ l. record { ids = map (λ (x : Cell). x.id) cells ++ c.id ∷ []; names = l }) (map-append (λ (x : Cell). x.name) cells (c ∷ []))

@@ -2,6 +2,7 @@ pub mod Answer
 pub mod Ends
 pub mod Gives
 pub mod Inputs
+pub mod Known
 pub mod Live
 pub mod Names
 pub mod Reading

@@ -1,7 +1,7 @@
 -- The cells that the session runs today: named cells whose body is a sum (this project, for now).
-use Rattle.std.specs.Prelude.{ℕ, suc, ◌==◌, List, [], ◌∷◌, Bool, true, false, not, ◌&&◌, ◌||◌, nat_lt, int_le, pos, bytes_eq, codes, is_some, Option, Some, None, if◌then◌else◌}
-use Rattle.std.specs.List.{list_any}
+use Rattle.std.specs.Prelude.{ℕ, suc, ◌==◌, List, Bool, true, false, not, ◌&&◌, ◌||◌, nat_lt, int_le, pos, is_some, Option, Some, None, if◌then◌else◌}
 use Rattle.ob_base.specs.Builtins.{is_builtin_name}
+use Rattle.ob_hosts.specs.Names.{is_host_name}
 use Rattle.ob_base.specs.declared.operators.BinaryOp.{BinaryOp}
 use Rattle.ob_base.specs.declared.operators.BinaryOp.TheVariants as op
 use Rattle.ob_tree_types.specs.declared.tree.Expr.{Expr, fold-Expr}
@@ -45,13 +45,6 @@ expr_terms = fold-Expr U T T U U U U U T (λ d. tt) expr_step body_step (λ h. t
 
 abbrev pub is_sum : Function → Bool
 is_sum body = is_some (fold-Function U T T U U U U U T (λ d. tt) expr_step body_step (λ h. tt) (λ p. tt) (λ s. tt) (λ c. tt) (λ d. tt) function_step body)
-
--- the host functions' names (this project)
-abbrev pub host_names : List (List ℕ)
-host_names = codes "quot" ∷ codes "floordiv" ∷ codes "mod" ∷ codes "clamp0" ∷ []
-
-abbrev pub is_host_name : List ℕ → Bool
-is_host_name name = list_any (λ w. bytes_eq w name) host_names
 
 -- a cell of such a name is not built
 abbrev pub is_taken : List ℕ → Bool

@@ -1,6 +1,6 @@
 -- The notebook that a bundle opens, and what a command makes of it (this project).
-use Rattle.std.specs.Prelude.{ℕ, List, [], ◌∷◌, ◌++◌, length, replicate, Bool, true, false, not, ◌&&◌, ◌||◌, nat_le, bytes_eq, chars, slice_set, Option, Some, None, option_map, option_and_then, Result, Ok, Err, if◌then◌else◌}
-use Rattle.std.specs.List.{list_any, position_from}
+use Rattle.std.specs.Prelude.{ℕ, List, [], ◌∷◌, ◌++◌, length, replicate, true, false, not, ◌&&◌, ◌||◌, nat_le, bytes_eq, chars, slice_set, Option, Some, None, option_map, option_and_then, Result, Ok, Err, if◌then◌else◌}
+use Rattle.std.specs.List.{position_from}
 use Rattle.ob_base.specs.declared.cause.Cause.{Cause}
 use Rattle.ob_base.specs.declared.cause.Cause.TheVariants as cause
 use Rattle.ob_base.specs.declared.command.Command.{Command}
@@ -11,45 +11,37 @@ use Rattle.ob_tree_types.specs.declared.cell.CellTree.TheVariants as cell
 use Rattle.ob_grammar.specs.ReadingTexts.{text_cell}
 use Rattle.ob_session.specs.declared.world.Cell.{Cell}
 use Rattle.ob_session.specs.declared.world.World.{World}
+use Rattle.ob_session.specs.Known.{CellNames, names_of, has_text, place_in}
 use Rattle.ob_session.specs.Names.{function_name}
 use Rattle.ob_session.specs.Sums.{is_sum, is_taken}
 
-abbrev pub has_id : List Cell → List ℕ → Bool
-has_id cells id = list_any (λ c. bytes_eq c.id id) cells
-
-abbrev pub has_name : List Cell → List ℕ → Bool
-has_name cells name = list_any (λ c. bytes_eq c.name name) cells
-
--- the places, from 0, of the cell of an id and of the cell that defines a name
+-- the place, from 0, of the cell of an id
 abbrev pub place_of_id : List Cell → List ℕ → Option ℕ
 place_of_id cells id = position_from (λ c. bytes_eq c.id id) 0 cells
 
-abbrev pub place_of_name : List Cell → List ℕ → Option ℕ
-place_of_name cells name = position_from (λ c. bytes_eq c.name name) 0 cells
+-- the input of a cell behind cells of these names: none where it reads no name, and no cell where none of these defines the name
+abbrev pub resolved : List (List ℕ) → Option (List ℕ) → Option (Option ℕ)
+resolved names None = Some None
+resolved names (Some x) = option_map (λ p. Some p) (place_in names x)
 
--- the input of a cell behind these: none where it reads no name, and no cell where none of these defines the name
-abbrev pub resolved : List Cell → Option (List ℕ) → Option (Option ℕ)
-resolved cells None = Some None
-resolved cells (Some x) = option_map (λ p. Some p) (place_of_name cells x)
-
--- the cell of a tree behind these; none where it is not built
-abbrev pub cell_behind : List Cell → List ℕ → CellTree → Option Cell
-cell_behind cells id (cell.Named name body) =
-    if is_taken name || not (is_sum body) || has_id cells id || has_name cells name then None
-    else option_map (λ input. record { id = id; name = name; body = body; input = input }) (resolved cells (function_name body))
-cell_behind cells id other = None
+-- the cell of a tree behind cells of these ids and names; none where it is not built
+abbrev pub cell_behind : CellNames → List ℕ → CellTree → Option Cell
+cell_behind known id (cell.Named name body) =
+    if is_taken name || not (is_sum body) || has_text known.ids id || has_text known.names name then None
+    else option_map (λ input. record { id = id; name = name; body = body; input = input }) (resolved known.names (function_name body))
+cell_behind known id other = None
 
 -- the most bytes of a cell's text
 abbrev pub text_limit : ℕ
 text_limit = 65536
 
-abbrev pub cell_from : List Cell → NewCell → Option Cell
-cell_from cells new = if nat_le (length new.text) text_limit then option_and_then (cell_behind cells new.id) (text_cell (chars new.text)) else None
+abbrev pub cell_from : CellNames → NewCell → Option Cell
+cell_from known new = if nat_le (length new.text) text_limit then option_and_then (cell_behind known new.id) (text_cell (chars new.text)) else None
 
 -- the cells of a list behind these; none where one is not built
 abbrev pub cells_from : List Cell → List NewCell → Option (List Cell)
 cells_from cells [] = Some cells
-cells_from cells (new ∷ more) = option_and_then (λ c. cells_from (cells ++ c ∷ []) more) (cell_from cells new)
+cells_from cells (new ∷ more) = option_and_then (λ c. cells_from (cells ++ c ∷ []) more) (cell_from (names_of cells) new)
 
 -- nothing is observed, and nothing was live
 abbrev pub new_world : List ℕ → List Cell → World

@@ -4,6 +4,7 @@
 
 mod answer;
 mod exit;
+mod known;
 mod live;
 mod names;
 mod open;

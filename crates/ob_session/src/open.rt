@@ -1,10 +1,11 @@
 ghost use Rattle.std.specs.Prelude.{◌≡◌, ◌<◌, [], length, map, IfOk, IfSome, Some, option_map};
 ghost use Rattle.ob_session.specs.Inputs.{IsBuiltUp};
-ghost use Rattle.std.specs.List.{list_any, position_from};
 ghost use Rattle.ob_session.specs.Gives.{Gives};
-ghost use Rattle.ob_session.specs.World.{has_id, has_name, place_of_name, resolved, cell_behind, cell_from, cells_from, new_world, world_of_notebook, world_of};
+ghost use Rattle.ob_session.specs.Known.{IsNew};
+ghost use Rattle.ob_session.specs.World.{resolved, cell_behind, cell_from, cells_from, new_world, world_of_notebook, world_of};
 ghost use Rattle.ob_session.specs.Sound.{IsSound};
 
+use crate::known::Known;
 use crate::names::function_name;
 use crate::sums::{is_sum, is_taken};
 use crate::world::{Cell, World};
@@ -47,37 +48,14 @@ impl From<AllocError> for OpenError {
     }
 }
 
-fn has_id(cells: &[Cell], id: &str) -> bool
-    ensures { result ≡ has_id cells.now id.now }
-{
-    cells.iter().any(|c| c.id.as_str() == id)
-}
-
-fn has_name(cells: &[Cell], name: &str) -> bool
-    ensures { result ≡ has_name cells.now name.now }
-{
-    cells.iter().any(|c| c.name.as_str() == name)
-}
-
-fn place_of_name(cells: &[Cell], name: &str) -> Option<usize>
-    ensures value { result ≡ place_of_name cells.now name.now }
-    ensures within { IfSome result (λ place. place < length cells.now) }
-{
-    for (place, cell) in cells.iter().enumerate() {
-        if cell.name.as_str() == name {
-            return Some(place);
-        }
-    }
-    None
-}
-
-fn resolved(cells: &[Cell], name: Option<&Text>) -> Option<Option<usize>>
-    ensures value { result ≡ resolved cells.now (option_map (λ x. x.now) name.entry) }
-    ensures within { IfSome result (λ input. IfSome input (λ place. place < length cells.now)) }
+// The place of the cell whose value a cell behind these reads.
+fn resolved(known: &Known<'_>, name: Option<&Text>) -> Option<Option<usize>>
+    ensures value { result ≡ resolved known.now.names (option_map (λ x. x.now) name.entry) }
+    ensures within { IfSome result (λ input. IfSome input (λ place. place < length known.now.names)) }
 {
     match name {
         None => Some(None),
-        Some(name) => match place_of_name(cells, name.as_str()) {
+        Some(name) => match known.place_of_name(name.as_str()) {
             Some(place) => Some(Some(place)),
             None => None,
         },
@@ -85,55 +63,61 @@ fn resolved(cells: &[Cell], name: Option<&Text>) -> Option<Option<usize>>
 }
 
 // The cell of a tree behind these.
-fn cell_behind(cells: &[Cell], id: Text, tree: CellTree) -> Option<Cell>
-    ensures value { result ≡ cell_behind cells.now id tree }
-    ensures within { IfSome result (λ cell. IfSome cell.input (λ place. place < length cells.now)) }
+fn cell_behind<'a>(
+    alloc: Global,
+    known: &Known<'a>,
+    id: &'a Text,
+    tree: CellTree,
+) -> Result<Cell, OpenError>
+    ensures value { Gives result (cell_behind known.now id.now tree) }
+    ensures new { IfOk result (IsNew known.now) }
+    ensures id { IfOk result (λ cell. cell.id ≡ id.now) }
 {
     let CellTree::Named(name, body) = tree else {
-        return None;
+        return Err(OpenError::NotBuilt);
     };
     if is_taken(name.as_str()) || !is_sum(&body) {
-        return None;
+        return Err(OpenError::NotBuilt);
     }
-    if has_id(cells, id.as_str()) || has_name(cells, name.as_str()) {
-        return None;
+    if known.has_id(id.as_str()) || known.has_name(name.as_str()) {
+        return Err(OpenError::NotBuilt);
     }
-    match resolved(cells, function_name(&body)) {
-        Some(input) => Some(Cell {
-            id,
+    match resolved(known, function_name(&body)) {
+        Some(input) => Ok(Cell {
+            id: id.copy(alloc)?,
             name,
             body,
             input,
         }),
-        None => None,
+        None => Err(OpenError::NotBuilt),
     }
 }
 
-fn cell_from(alloc: Global, cells: &[Cell], new: &NewCell) -> Result<Cell, OpenError>
-    ensures value { Gives result (cell_from cells.now new.now) }
-    ensures within { IfOk result (λ cell. IfSome cell.input (λ place. place < length cells.now)) }
+fn cell_from<'a>(alloc: Global, known: &Known<'a>, new: &'a NewCell) -> Result<Cell, OpenError>
+    ensures value { Gives result (cell_from known.now new.now) }
+    ensures new { IfOk result (IsNew known.now) }
+    ensures id { IfOk result (λ cell. cell.id ≡ new.now.id) }
 {
     let text = new.text.as_str();
     if text.len() > TEXT_LIMIT {
         return Err(OpenError::NotBuilt);
     }
     match parse_cell(alloc, text) {
-        Ok(tree) => match cell_behind(cells, new.id.copy(alloc)?, tree) {
-            Some(cell) => Ok(cell),
-            None => Err(OpenError::NotBuilt),
-        },
+        Ok(tree) => cell_behind(alloc, known, &new.id, tree),
         Err(ParseError::Syntax) => Err(OpenError::NotBuilt),
         Err(ParseError::NoMemory) => Err(OpenError::NoMemory),
     }
 }
 
-fn cells_from(alloc: Global, new: &[NewCell]) -> Result<List<Cell>, OpenError>
-    ensures value { Gives result (cells_from [] new.now) }
+fn cells_from(alloc: Global, all: &[NewCell]) -> Result<List<Cell>, OpenError>
+    ensures value { Gives result (cells_from [] all.now) }
     ensures built_up { IfOk result (λ cells. IsBuiltUp (map (λ c. c.input) cells)) }
 {
     let mut cells = List::new(alloc);
-    for cell in new {
-        let cell = cell_from(alloc, cells.as_slice(), cell)?;
+    let mut known = Known::new(alloc);
+    for new in all {
+        let cell = cell_from(alloc, &known, new)?;
+        known.add(alloc, new.id.as_str(), cell.name.as_str())?;
         cells.push(cell)?;
     }
     Ok(cells)

@@ -1,14 +1,11 @@
 //! The cells that are run today: sums.
 
-ghost use Rattle.std.specs.Prelude.{◌≡◌, bytes_eq};
-ghost use Rattle.std.specs.List.{list_any};
-ghost use Rattle.ob_session.specs.Sums.{with_term, joined, expr_terms, is_sum, is_host_name, is_taken};
+ghost use Rattle.std.specs.Prelude.{◌≡◌};
+ghost use Rattle.ob_session.specs.Sums.{with_term, joined, expr_terms, is_sum, is_taken};
 
 use ob_base::{BinaryOp, is_builtin_name};
+use ob_hosts::is_host_name;
 use ob_tree::{Expr, FnBody, Function};
-
-/// The names of the host functions (this project).
-const HOST_NAMES: [&str; 4] = ["quot", "floordiv", "mod", "clamp0"];
 
 /// How many terms a sum has, and whether one of them is a name.
 #[derive(Clone, Copy, Debug, PartialEq, Eq)]
@@ -75,18 +72,6 @@ pub fn is_sum(body: &Function) -> bool
         FnBody::Value(value) => expr_terms(value.get()).is_some(),
         FnBody::Items(_) => false,
     }
-}
-
-fn is_among(words: &[&str], name: &str) -> bool
-    ensures { result ≡ list_any (λ w. bytes_eq w.now name.now) words.now }
-{
-    words.iter().any(|w| *w == name)
-}
-
-fn is_host_name(name: &str) -> bool
-    ensures { result ≡ is_host_name name.now }
-{
-    is_among(&HOST_NAMES, name)
 }
 
 /// Whether a cell of this name is not built: that of a builtin or of a host function.

@@ -1,13 +1,11 @@
 //! How the arguments of a call are read.
-ghost use Rattle.std.specs.Prelude.{◌≡◌, ◌≤◌, ℕ, pos, negsuc, IfSome, IfNone, Some, length};
+ghost use Rattle.std.specs.Prelude.{◌≡◌, ◌≤◌, ℕ, pos, negsuc, IfSome, IfNone, length};
 ghost use Rattle.std.specs.Option.{option_copied};
 ghost use Rattle.std.specs.List.{slice_range};
 ghost use Rattle.ob_values.specs.Effects.{number_of};
 ghost use Rattle.ob_values.specs.TextMethods.{pad_of};
-ghost use Rattle.ob_values.specs.Operators.{text_in};
-ghost use Rattle.ob_values.specs.Values.{string_of};
 
-use ob_values::{Body, Regions, Value};
+use ob_values::{Regions, Value, text_in};
 
 /// A value that is a number.
 pub fn number_of(value: Value) -> Option<i64>
@@ -28,23 +26,6 @@ pub fn count_of(number: i64) -> Option<usize>
         None
     } else {
         Some(number as usize)
-    }
-}
-
-/// The units of a value that is a text.
-pub fn text_in(regions: &Regions, value: Value) -> Option<&[u16]>
-    ensures value { option_copied result ≡ text_in regions.now value }
-    ensures text { IfSome result (λ units. string_of regions.now value ≡ Some units.now) }
-{
-    match value {
-        Value::Ref(r) => match regions.find(r) {
-            Some(item) => match &item.body {
-                Body::Text(units) => Some(units.as_slice()),
-                _ => None,
-            },
-            None => None,
-        },
-        _ => None,
     }
 }
 

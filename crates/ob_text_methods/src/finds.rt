@@ -1,20 +1,17 @@
 //! The methods of texts that look for a piece. Each takes a step for each 16 units of the text.
 ghost use Rattle.ob_values.specs.Sound.{pointers_of};
-ghost use Rattle.std.specs.Prelude.{◌≡◌, ◌+◌, ◌/◌, ◌<◌, ◌≤◌, ◌^◌, IfOk, length, IsSome, IsTrue, Err, is_ok, option_map, is_some, ◌∷◌, []};
+ghost use Rattle.std.specs.Prelude.{◌≡◌, ◌+◌, ◌/◌, ◌≤◌, IfOk, length, IsSome, IsTrue, Err, is_ok, ◌∷◌, []};
 ghost use Rattle.std.specs.Option.{ForSome};
 ghost use Rattle.std.specs.Result.{result_map_both};
 ghost use Rattle.ob_items.specs.Bodies.{text_of};
-ghost use Rattle.ob_values.specs.ArrayMethods.{found};
-ghost use Rattle.ob_values.specs.Effects.{answer_of, done_of, Answers, argument};
+ghost use Rattle.ob_values.specs.Effects.{answer_of, done_of, Answers};
 ghost use Rattle.ob_values.specs.TextMethods.{units_at, first_place, index_of_text, includes_text, starts_with_text, ends_with_text};
-ghost use Rattle.ob_values.specs.Operators.{text_in};
 ghost use Rattle.ob_values.specs.Store.{IsOpen, read_item};
 
-use crate::arguments::text_in;
 use crate::make::{charge, given};
 use crate::search::{place_of, shifts};
 use ob_base::NoMemory;
-use ob_values::{Done, OpError, Ref, RegionKey, Regions, Thrown, Value, argument};
+use ob_values::{Done, OpError, Ref, RegionKey, Regions, Thrown, Value, argument, found, text_in};
 use std::alloc::Global;
 
 /// The first place at which a piece stands in a text, in time linear in the text, whatever the piece.
@@ -31,17 +28,6 @@ fn first_place(alloc: Global, units: &[u16], piece: &[u16]) -> Result<Option<usi
     }
     let shifts = shifts(alloc, piece)?;
     Ok(place_of(units, piece, shifts.as_slice()))
-}
-
-// A place that was found, or -1.
-fn found(place: Option<usize>) -> Value
-    requires { ForSome place (λ k. k < 2 ^ 63) }
-    ensures { result ≡ found place }
-{
-    match place {
-        Some(place) => Value::Int(place as i64),
-        None => Value::Int(-1),
-    }
 }
 
 // The steps of a search in a text of so many units: one for each 16, rounded up.

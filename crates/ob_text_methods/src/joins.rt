@@ -4,19 +4,19 @@ ghost use Rattle.std.specs.List.{flat_map, join_by};
 ghost use Rattle.std.specs.Option.{option_copied};
 ghost use Rattle.std.specs.Result.{result_map_both};
 ghost use Rattle.ob_items.specs.Bodies.{array_of};
-ghost use Rattle.ob_values.specs.ArrayMethods.{elements_at, join, separator, written_as};
+ghost use Rattle.ob_values.specs.ArrayMethods.{join, separator, written_as};
 ghost use Rattle.ob_values.specs.Effects.{all_some, answer_of, gives_text, in_steps, Answers, Leaves};
 ghost use Rattle.ob_values.specs.Fixed.{KeepsFixed};
 ghost use Rattle.ob_values.specs.Operators.{AddsValue};
 ghost use Rattle.ob_values.specs.Store.{IsOpen, elements_in, read_item, text_cost};
 ghost use Rattle.ob_text_methods.specs.Join.{join_answer};
 
-use crate::arguments::text_in;
 use crate::make::{charge, made};
 use itoa::Buffer;
 use ob_base::{MAX_TEXT_UNITS, NoMemory, Units};
 use ob_values::{
-    Body, Done, OpError, Ref, RegionKey, Regions, Thrown, Value, argument, text_elements,
+    Done, OpError, Ref, RegionKey, Regions, Thrown, Value, argument, elements_of, text_elements,
+    text_in,
 };
 use std::alloc::Global;
 
@@ -163,20 +163,6 @@ fn separator(regions: &Regions, value: Value) -> Option<&[u16]>
     match value {
         Value::Undefined => Some(&[44]),
         _ => text_in(regions, value),
-    }
-}
-
-// The elements of an array.
-fn elements_of(regions: &Regions, r: Ref) -> &[Value]
-    requires { IsSome (read_item array_of regions.now r) }
-    ensures { result.now ≡ elements_at regions.now r }
-{
-    match regions.find(r) {
-        Some(item) => match &item.body {
-            Body::Array(values) => values.as_slice(),
-            _ => unreachable!(),
-        },
-        None => unreachable!(),
     }
 }
 

@@ -11,13 +11,14 @@ ghost use Rattle.ob_values.specs.Sound.{AddsValues};
 ghost use Rattle.ob_values.specs.Store.{IsOpen, read_item, elements_in, with_new, next_ref, text_cost};
 ghost use Rattle.ob_values.specs.TextMethods.{units_at, cut, split_by, gives_texts, split, with_texts, text_values, texts_cost};
 
-use crate::arguments::text_in;
 use crate::make::{charge, made};
 use crate::parts::{parts_cost, parts_of, units_apart};
 use crate::search::shifts;
 use crate::units::copy_of;
 use ob_base::{List, NoMemory, Units};
-use ob_values::{Done, OpError, Ref, RegionKey, Regions, Thrown, Value, argument, text_elements};
+use ob_values::{
+    Done, OpError, Ref, RegionKey, Regions, Thrown, Value, argument, text_elements, text_in,
+};
 use std::alloc::Global;
 
 // The units of a text, each as a text.

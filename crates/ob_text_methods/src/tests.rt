@@ -2,7 +2,7 @@ use crate::{
     Done, abs, char_code_at, ends_with, error, includes, index_of, join, max, min, pad_start,
     repeat, sign, slice, split, starts_with, string,
 };
-use ob_items::units_of;
+use ob_base::Units;
 use ob_values::{AllocError, Body, ErrorKind, OpError, Ref, RegionKey, Regions, Thrown, Value};
 use std::alloc::Global;
 use std::test::Fail;
@@ -99,7 +99,7 @@ fn text(
     key: RegionKey,
     text: &str,
 ) -> Result<Ref, AllocError> {
-    let units = units_of(alloc, text.as_bytes())?;
+    let units = Units::from_bytes(alloc, text.as_bytes())?;
     units_text(regions, key, units.as_slice())
 }
 

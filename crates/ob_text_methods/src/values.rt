@@ -9,11 +9,10 @@ ghost use Rattle.ob_values.specs.Operators.{AddsValue};
 ghost use Rattle.ob_values.specs.Store.{IsOpen, elements_in, text_cost};
 ghost use Rattle.ob_values.specs.Values.{string_of};
 
-use crate::arguments::text_in;
 use crate::make::{made, room_for};
 use crate::units::copy_of;
 use ob_base::Units;
-use ob_values::{Done, OpError, RegionKey, Regions, TextError, Thrown, Value, argument};
+use ob_values::{Done, OpError, RegionKey, Regions, TextError, Thrown, Value, argument, text_in};
 use std::alloc::Global;
 
 /// The text of a number, a boolean, null or undefined.

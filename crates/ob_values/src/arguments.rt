@@ -1,8 +1,13 @@
-//! How the arguments of a call are read.
-ghost use Rattle.std.specs.Prelude.{◌≡◌, ◌≤◌, IfSome, Some};
+//! How the receiver and the arguments of a call are read.
+ghost use Rattle.std.specs.Prelude.{◌≡◌, ◌≤◌, ◌<◌, ◌^◌, IfSome, Some};
+ghost use Rattle.std.specs.Option.{option_copied};
+ghost use Rattle.ob_values.specs.ArrayMethods.{elements_at, array_in, found};
 ghost use Rattle.ob_values.specs.Effects.{argument, place_of, places_of};
+ghost use Rattle.ob_values.specs.Operators.{text_in};
+ghost use Rattle.ob_values.specs.Values.{string_of};
 
-use ob_items::Value;
+use crate::regions::Regions;
+use ob_items::{Body, Ref, Value};
 use std::cmp;
 
 /// The argument at a place, from 0: a missing one is undefined.
@@ -50,4 +55,61 @@ pub fn places_of(len: usize, args: &[Value]) -> Option<(usize, usize)>
     let from = place_of(len, 0, argument(args, 0))?;
     let to = place_of(len, len, argument(args, 1))?;
     Some((from, to))
+}
+
+/// The elements of an array; none of another item.
+pub fn elements_of(regions: &Regions, r: Ref) -> &[Value]
+    ensures { result.now ≡ elements_at regions.now r }
+{
+    match regions.find(r) {
+        Some(item) => match &item.body {
+            Body::Array(values) => values.as_slice(),
+            _ => &[],
+        },
+        None => &[],
+    }
+}
+
+/// The elements of a value that is an array.
+pub fn array_of(regions: &Regions, value: Value) -> Option<&[Value]>
+    ensures { option_copied result ≡ array_in regions.now value }
+{
+    match value {
+        Value::Ref(r) => match regions.find(r) {
+            Some(item) => match &item.body {
+                Body::Array(values) => Some(values.as_slice()),
+                _ => None,
+            },
+            None => None,
+        },
+        _ => None,
+    }
+}
+
+/// The units of a value that is a text.
+pub fn text_in(regions: &Regions, value: Value) -> Option<&[u16]>
+    ensures value { option_copied result ≡ text_in regions.now value }
+    ensures text { IfSome result (λ units. string_of regions.now value ≡ Some units.now) }
+{
+    match value {
+        Value::Ref(r) => match regions.find(r) {
+            Some(item) => match &item.body {
+                Body::Text(units) => Some(units.as_slice()),
+                _ => None,
+            },
+            None => None,
+        },
+        _ => None,
+    }
+}
+
+/// A place that was found, or -1.
+pub fn found(place: Option<usize>) -> Value
+    requires { IfSome place (λ p. p < 2 ^ 63) }
+    ensures { result ≡ found place }
+{
+    match place {
+        Some(place) => Value::Int(place as i64),
+        None => Value::Int(-1),
+    }
 }

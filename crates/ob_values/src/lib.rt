@@ -11,7 +11,7 @@ mod read;
 mod regions;
 mod seen;
 
-pub use arguments::{argument, places_of};
+pub use arguments::{argument, array_of, elements_of, found, places_of, text_in};
 pub use done::Done;
 pub use ob_items::{
     AllocError, Body, Boxed, Catch, Closure, CodeKey, ErrorKind, Failure, Frame, HookError, Item,

@@ -8,7 +8,7 @@ ghost use Rattle.ob_values.specs.Values.{same_value, same_item, string_of};
 
 use crate::regions::Regions;
 use ob_base::{List, NoMemory, Units};
-use ob_items::{Body, Ref, TextError, Value, integer_units, units_of};
+use ob_items::{Body, Ref, TextError, Value, integer_units};
 use std::alloc::Global;
 
 impl Regions {
@@ -91,10 +91,10 @@ impl Regions {
         ensures ok { IfOk result (λ units. string_of self.now value ≡ Some units) }
     {
         match value {
-            Value::Undefined => text_or(units_of(self.alloc(), b"undefined")),
-            Value::Null => text_or(units_of(self.alloc(), b"null")),
-            Value::Bool(true) => text_or(units_of(self.alloc(), b"true")),
-            Value::Bool(false) => text_or(units_of(self.alloc(), b"false")),
+            Value::Undefined => text_or(Units::from_bytes(self.alloc(), b"undefined")),
+            Value::Null => text_or(Units::from_bytes(self.alloc(), b"null")),
+            Value::Bool(true) => text_or(Units::from_bytes(self.alloc(), b"true")),
+            Value::Bool(false) => text_or(Units::from_bytes(self.alloc(), b"false")),
             Value::Int(number) => text_or(integer_units(self.alloc(), number)),
             Value::Builtin(_) | Value::Holder(_) => Err(TextError::NotText),
             Value::Ref(r) => match self.find_text(r) {

@@ -150,7 +150,7 @@ fn at(regions: &Regions, r: Ref, index: i64) -> Option<Value> {
 }
 
 fn units(alloc: Global, text: &str) -> Result<Units, NoMemory> {
-    ob_items::units_of(alloc, text.as_bytes())
+    Units::from_bytes(alloc, text.as_bytes())
 }
 
 #[test]

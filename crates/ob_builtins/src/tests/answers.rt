@@ -3,7 +3,7 @@
 use crate::tests::printing::{error_name, put_value};
 use crate::tests::words::{BadRow, Made, number, two};
 use crate::{Done, call_function, call_method, find_method, find_property, is_function, is_method};
-use ob_items::units_of;
+use ob_base::Units;
 use ob_values::{Kind, OpError, Ref, RegionKey, Regions, Value};
 use std::alloc::Global;
 
@@ -100,7 +100,7 @@ fn receiver_of(made: &mut Made, word: &str) -> Result<Ref, BadRow> {
 }
 
 fn number_of(made: &Made, receiver: Ref, name: &str) -> Result<Option<u16>, BadRow> {
-    let name = units_of(made.alloc, name.as_bytes())?;
+    let name = Units::from_bytes(made.alloc, name.as_bytes())?;
     Ok(find_method(kind(&made.regions, receiver), &name))
 }
 
@@ -127,7 +127,7 @@ pub fn function_answer(alloc: Global, row: &str, left: u64) -> Result<String, Ba
 // The number of a function by its name, or in digits.
 fn function_number(alloc: Global, name: &str) -> Result<Option<u16>, BadRow> {
     let (object, property) = two(name, '.');
-    let property = units_of(alloc, property.as_bytes())?;
+    let property = Units::from_bytes(alloc, property.as_bytes())?;
     Ok(match object {
         "Math" => find_property(0, &property),
         "Object" => find_property(1, &property),

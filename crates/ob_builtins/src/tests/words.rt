@@ -3,7 +3,6 @@
 //! one of 17 elements, and objects as `{b:5,1:6}`. Only empty arrays and objects stand inside others.
 
 use ob_base::{NoMemory, Units};
-use ob_items::units_of;
 use ob_values::{AllocError, Ref, RegionKey, Regions, SetError, Value};
 use std::alloc::{AllocError as Refused, AllocFailed, Global};
 
@@ -149,7 +148,7 @@ impl Made {
         if !words.is_empty() {
             for word in words.split(',') {
                 let (name, word) = two(word, ':');
-                let name = units_of(self.alloc, name.as_bytes())?;
+                let name = Units::from_bytes(self.alloc, name.as_bytes())?;
                 let value = self.leaf(word)?;
                 put(&mut self.regions, r, &name, value)?;
             }

@@ -3,7 +3,7 @@ use Rattle.std.proofs.lemmas.Iterator.{YieldsList-from_chars}
 use Rattle.std.proofs.lemmas.Iterator.Consumers.{YieldsList-end}
 use Rattle.std.specs.Char.Escape.{encode_utf16}
 use Rattle.ob_base.specs.Utf16.{utf16}
-use Rattle.ob_descent_tokens.proofs.words.utf16.Goals as goal
+use Rattle.ob_base.proofs.units.Units.from_str.Goals as goal
 
 pub returns : goal.returns
 unfolding utf16
