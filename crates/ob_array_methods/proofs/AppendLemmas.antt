@@ -11,7 +11,7 @@ use Rattle.ob_items.specs.Region.{Cells, rewritten}
 use Rattle.ob_items.specs.declared.error.SetError.{SetError}
 use Rattle.ob_items.specs.declared.error.SetError.TheVariants as S
 use Rattle.ob_items.specs.declared.item.Body.{Body}
-use Rattle.ob_items.specs.declared.item.Item.{Item}
+use Rattle.ob_items.specs.Item.{Item}
 use Rattle.ob_items.specs.declared.value.Ref.{Ref}
 use Rattle.ob_items.specs.declared.value.Value.{Value}
 use Rattle.ob_values.specs.ArrayMethods.{elements_at, appended}

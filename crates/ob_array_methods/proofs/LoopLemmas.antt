@@ -14,7 +14,7 @@ use Rattle.ob_items.specs.Region.{Cells, rewritten, after_literal, with_literal,
 use Rattle.ob_items.specs.declared.error.OpError.{OpError}
 use Rattle.ob_items.specs.declared.item.Body.{Body}
 use Rattle.ob_items.specs.declared.item.Body.TheVariants as B
-use Rattle.ob_items.specs.declared.item.Item.{Item}
+use Rattle.ob_items.specs.Item.{Item}
 use Rattle.ob_items.specs.declared.value.Ref.{Ref}
 use Rattle.ob_items.specs.declared.value.RegionKey.{RegionKey}
 use Rattle.ob_items.specs.declared.value.Value.{Value}

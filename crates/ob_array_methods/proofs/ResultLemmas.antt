@@ -11,7 +11,7 @@ use Rattle.ob_items.specs.Region.{Cells}
 use Rattle.ob_items.specs.declared.error.OpError.{OpError}
 use Rattle.ob_items.specs.declared.item.Body.{Body}
 use Rattle.ob_items.specs.declared.item.Body.TheVariants as B
-use Rattle.ob_items.specs.declared.item.Item.{Item}
+use Rattle.ob_items.specs.Item.{Item}
 use Rattle.ob_items.specs.declared.value.Ref.{Ref}
 use Rattle.ob_items.specs.declared.value.Value.{Value}
 use Rattle.ob_items.specs.declared.value.Value.TheVariants as V

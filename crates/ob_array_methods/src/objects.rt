@@ -21,7 +21,7 @@ pub fn object_of(regions: &Regions, value: Value) -> Option<&Properties>
 {
     match value {
         Value::Ref(r) => match regions.find(r) {
-            Some(item) => match &item.body {
+            Some(body) => match body {
                 Body::Object(properties) => Some(properties),
                 _ => None,
             },
@@ -132,7 +132,7 @@ fn has_key(
             Ok(Some(properties.get(units.as_slice()).is_some()))
         }
         Value::Ref(r) => match regions.find(r) {
-            Some(item) => match &item.body {
+            Some(body) => match body {
                 Body::Text(units) => Ok(Some(properties.get(units.as_slice()).is_some())),
                 _ => Ok(None),
             },

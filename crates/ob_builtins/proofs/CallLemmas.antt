@@ -15,7 +15,7 @@ use Rattle.ob_items.specs.Items.{at_item}
 use Rattle.ob_items.specs.Region.{Cells}
 use Rattle.ob_items.specs.declared.item.Body.{Body}
 use Rattle.ob_items.specs.declared.item.Body.TheVariants as B
-use Rattle.ob_items.specs.declared.item.Item.{Item}
+use Rattle.ob_items.specs.Item.{Item}
 use Rattle.ob_values.specs.BuiltinNames.{Builtin, builtin_numbered}
 use Rattle.ob_values.specs.Builtins.{array_method, text_method, method_of, method_call}
 use Rattle.ob_values.specs.Effects.{Effect, Answers, Leaves, answer_of}

@@ -5,7 +5,7 @@ use Rattle.std.proofs.lemmas.Bool.Decides.{nat_tests}
 use Rattle.ob_items.specs.Properties.{entries_of}
 use Rattle.ob_items.specs.declared.item.Body.{Body}
 use Rattle.ob_items.specs.declared.item.Body.TheVariants as B
-use Rattle.ob_items.specs.declared.item.Item.{Item}
+use Rattle.ob_items.specs.Item.{Item}
 use Rattle.ob_items.specs.declared.properties.Property.{Property}
 use Rattle.ob_items.specs.declared.value.Ref.{Ref}
 use Rattle.ob_items.specs.declared.value.Value.{Value}

@@ -74,7 +74,7 @@ fn message_units(regions: &Regions, message: Ref) -> &[u16]
     ensures { result.now ≡ spec.message_units regions.now message }
 {
     match regions.find(message) {
-        Some(item) => match &item.body {
+        Some(body) => match body {
             Body::Text(units) => units.as_slice(),
             _ => &[],
         },
@@ -88,7 +88,7 @@ pub(crate) fn error_parts(regions: &Regions, value: Value) -> Option<(ErrorKind,
 {
     match value {
         Value::Ref(r) => match regions.find(r) {
-            Some(item) => match &item.body {
+            Some(body) => match body {
                 Body::Error(kind, message) => Some((*kind, message_units(regions, *message))),
                 _ => None,
             },

@@ -52,7 +52,7 @@ fn print_value(
         Value::Builtin(number) => put_builtin(page, number),
         Value::Holder(_) => page.write("undefined"),
         Value::Ref(r) => match regions.find(r) {
-            Some(item) => print_body(alloc, page, regions, &item.body, depth),
+            Some(body) => print_body(alloc, page, regions, body, depth),
             None => page.write("undefined"),
         },
     }

@@ -9,7 +9,7 @@ use Rattle.indexmap.specs.IndexMap.{insert_entry}
 use Rattle.ob_items.specs.Bodies.{text_of}
 use Rattle.ob_items.specs.Items.{at_item, changed, with_body, marked_at, live}
 use Rattle.ob_items.specs.Region.{AreLiterals}
-use Rattle.ob_items.specs.declared.item.Item.{Item}
+use Rattle.ob_items.specs.Item.{Item}
 use Rattle.ob_items.specs.declared.item.Body.{Body}
 use Rattle.ob_items.specs.declared.item.Body.TheVariants as B
 use Rattle.ob_items.proofs.DecimalLemmas.{same_text}

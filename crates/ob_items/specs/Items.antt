@@ -8,7 +8,7 @@ use Rattle.ob_items.specs.declared.error.SetError.{SetError}
 use Rattle.ob_items.specs.declared.error.SetError.TheVariants as S
 use Rattle.ob_items.specs.declared.error.HookError.{HookError}
 use Rattle.ob_items.specs.declared.error.HookError.TheVariants as H
-use Rattle.ob_items.specs.declared.item.Item.{Item}
+use Rattle.ob_items.specs.Item.{Item}
 use Rattle.ob_items.specs.declared.item.Body.{Body}
 use Rattle.ob_items.specs.declared.item.Body.TheVariants as B
 

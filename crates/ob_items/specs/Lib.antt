@@ -1,6 +1,8 @@
 pub mod Binding
 pub mod Bodies
+pub mod Columns
 pub mod IndexText
+pub mod Item
 pub mod Items
 pub mod Messages
 pub mod Numbers

@@ -6,7 +6,7 @@ use Rattle.std.specs.Option.{option_map_or}
 use Rattle.indexmap.specs.IndexMap.{insert_entry}
 use Rattle.ob_items.specs.Bodies.{text_of}
 use Rattle.ob_items.specs.Items.{at_item, changed, marked_at, live}
-use Rattle.ob_items.specs.declared.item.Item.{Item}
+use Rattle.ob_items.specs.Item.{Item}
 use Rattle.ob_items.specs.declared.item.Body.{Body}
 use Rattle.ob_items.specs.declared.item.Body.TheVariants as B
 

@@ -8,16 +8,6 @@ use std::alloc::Global;
 use std::marker::Model;
 use std::mem;
 
-/// An item of a region, with its frozen mark.
-#[derive(Drop)]
-pub struct Item {
-    pub frozen: bool,
-    pub body: Body,
-}
-
-// A region keeps each item in 40 bytes, and what it holds of any length elsewhere.
-const _: () = prove!(size_of::<Item>() == 40);
-
 /// What an item is.
 #[derive(Drop)]
 pub enum Body {

@@ -3,6 +3,7 @@
 #![tactic(auto)]
 
 mod binding;
+mod columns;
 mod error;
 mod frame;
 mod index_text;
@@ -18,7 +19,7 @@ pub use binding::Binding;
 pub use error::{AllocError, Failure, HookError, OpError, PlainError, SetError, TextError};
 pub use frame::{Catch, Frame, Taken};
 pub use index_text::{decimal_units, index_of, integer_units};
-pub use item::{Body, Closure, Item, Suspended};
+pub use item::{Body, Closure, Suspended};
 pub use properties::{Properties, Property};
 pub use region::Region;
 pub use sqlite_items::Boxed;

@@ -2,9 +2,10 @@ ghost use Rattle.std.specs.Prelude.{◌≡◌, ◌+◌, ◌-◌, ◌==◌, ◌�
 ghost use Rattle.std.specs.Option.{option_map_or, option_copied};
 ghost use Rattle.ob_items.specs.Bodies.{text_of, array_of, properties_of, box_of, hooks_of, kept_of, after_take, kept_from};
 ghost use Rattle.ob_items.specs.Properties.{with_property};
-ghost use Rattle.ob_items.specs.Items.{at_item, is_frozen_at, fault_of, count_at, is_new_at, element_fault, with_element, property_fault, frozen_fault, hook_fault, hooks_at};
+ghost use Rattle.ob_items.specs.Items.{at_item, is_frozen_at, live, fault_of, count_at, is_new_at, element_fault, with_element, property_fault, frozen_fault, hook_fault, hooks_at};
 
-use crate::{Body, Frame, HookError, Item, SetError, Taken, UnitsMap, Value, writes};
+use crate::columns::ItemColumns;
+use crate::{Body, Frame, HookError, SetError, Taken, UnitsMap, Value};
 use ob_base::{MAX_REGION_ELEMENTS, NoMemory, Units};
 use std::alloc::Global;
 use std::marker::Model;
@@ -12,7 +13,7 @@ use std::marker::Model;
 /// The items of a run, in the order of allocation, with the elements that they cost.
 #[derive(Drop)]
 pub struct Region {
-    items: Vec<Item>,
+    items: ItemColumns,
     elements: u32,
     literals: UnitsMap<usize>,
 }
@@ -22,9 +23,9 @@ impl Model for Region {
 
     ghost Value = { Cells };
 
-    ghost view = { λ r. record { items = r.items.items; elements = r.elements; literals = r.literals } };
+    ghost view = { λ r. record { items = r.items; elements = r.elements; literals = r.literals } };
 
-    ghost invariant = { λ r. IsRegion (record { items = r.items.items; elements = r.elements; literals = r.literals }) };
+    ghost invariant = { λ r. IsRegion (record { items = r.items; elements = r.elements; literals = r.literals }) };
 }
 
 impl Region {
@@ -35,7 +36,7 @@ impl Region {
         ensures { result ≡ no_cells }
     {
         Region {
-            items: Vec::new(alloc),
+            items: ItemColumns::new(alloc),
             elements: 0,
             literals: UnitsMap::new(alloc),
         }
@@ -56,38 +57,37 @@ impl Region {
         cost > (MAX_REGION_ELEMENTS as u32 - self.elements) as usize
     }
 
-    /// The item at a place, from 0; none past the end.
-    pub fn find(&self, at: usize) -> Option<&Item>
-        ensures { option_copied result ≡ slice_get self.now.items at }
+    /// The body of the item at a place, from 0; none past the end.
+    pub fn find(&self, at: usize) -> Option<&Body>
+        ensures { option_copied result ≡ at_item Some self.now.items at }
     {
-        self.items.get(at)
+        self.items.find(at)
     }
 
-    /// The item at a place that has one.
-    pub fn item(&self, at: usize) -> &Item
-        requires { at < length self.now.items }
-        ensures { slice_get self.now.items at ≡ Some result.now }
+    /// Whether the item at a place has the frozen mark.
+    pub fn is_frozen(&self, at: usize) -> bool
+        ensures { result ≡ is_frozen_at self.now.items at }
     {
-        &self.items[at]
+        self.items.is_frozen(at)
     }
 
-    /// Adds an item at the end, which costs so many elements. It answers its place.
+    /// Adds an item at the end, which isn't frozen and costs so many elements. It answers its place.
     ///
     /// # Errors
     /// `NoMemory` where an allocation is refused; the region is then as before.
-    pub fn add(&mut self, item: Item, cost: u32) -> Result<usize, NoMemory>
+    pub fn add(&mut self, body: Body, cost: u32) -> Result<usize, NoMemory>
         requires { self.old.elements + cost ≤ 50000 }
         ensures place { IfOk result (λ at. at ≡ length self.old.items) }
-        ensures ok { OnOk result (self.new ≡ with_item self.old item cost) }
+        ensures ok { OnOk result (self.new ≡ with_item self.old (live body) cost) }
         ensures err { OnErr result (self.new ≡ self.old) }
     {
         let at = self.items.len();
-        match self.items.push(item) {
+        match self.items.push(body) {
             Ok(()) => {
                 self.elements += cost;
                 Ok(at)
             }
-            Err(_) => Err(NoMemory),
+            Err(refused) => Err(refused),
         }
     }
 
@@ -103,7 +103,7 @@ impl Region {
         ensures ok { OnOk result (self.new ≡ rewritten array_of (with_element index value) self.old at (index == count_at self.old.items at)) }
         ensures err { OnErr result (self.new ≡ self.old) }
     {
-        if writes::set_element(&mut self.items, at, index, self.elements, value)? {
+        if self.items.set_element(at, index, self.elements, value)? {
             self.elements += 1;
         }
         Ok(())
@@ -126,7 +126,10 @@ impl Region {
         ensures ok { OnOk result (self.new ≡ rewritten properties_of (λ ps. Body.Object (with_property ps key.now value)) self.old at (is_new_at self.old.items at key.now)) }
         ensures err { OnErr result (self.new ≡ self.old) }
     {
-        if writes::set_property(alloc, &mut self.items, at, key, self.elements, value)? {
+        if self
+            .items
+            .set_property(alloc, at, key, self.elements, value)?
+        {
             self.elements += 1;
         }
         Ok(())
@@ -142,7 +145,7 @@ impl Region {
         ensures ok { OnOk result (self.new ≡ rewritten box_of (λ _. Body.Box (Some value)) self.old at false) }
         ensures err { OnErr result (self.new ≡ self.old) }
     {
-        writes::fill_box(&mut self.items, at, value)
+        self.items.fill_box(at, value)
     }
 
     /// Takes an element out of an array; the later ones move down.
@@ -156,7 +159,7 @@ impl Region {
         ensures ok { OnOk result (self.new ≡ rewritten array_of (λ vs. Body.Array (remove vs index)) self.old at false) }
         ensures err { OnErr result (self.new ≡ self.old) }
     {
-        writes::remove_element(&mut self.items, at, index)
+        self.items.remove_element(at, index)
     }
 
     /// Takes the last element out of an array; none where it has none.
@@ -170,7 +173,7 @@ impl Region {
         ensures ok { OnOk result (self.new ≡ rewritten array_of (λ vs. Body.Array (remove vs (length vs - 1))) self.old at false) }
         ensures err { OnErr result (self.new ≡ self.old) }
     {
-        writes::remove_last(&mut self.items, at)
+        self.items.remove_last(at)
     }
 
     /// Puts the elements of an array in the opposite order. It takes no memory.
@@ -183,7 +186,7 @@ impl Region {
         ensures ok { OnOk result (self.new ≡ rewritten array_of (λ vs. Body.Array (reverse vs)) self.old at false) }
         ensures err { OnErr result (self.new ≡ self.old) }
     {
-        writes::reverse_elements(alloc, &mut self.items, at)
+        self.items.reverse_elements(alloc, at)
     }
 
     /// Counts a hook of an invalidation object.
@@ -197,7 +200,7 @@ impl Region {
         ensures ok { OnOk result (self.new ≡ rewritten hooks_of (λ n. Body.Invalidation (n + 1)) self.old at false) }
         ensures err { OnErr result (self.new ≡ self.old) }
     {
-        writes::add_hook(&mut self.items, at)
+        self.items.add_hook(at)
     }
 
     /// Takes what a generator object keeps. If that is a frame, the generator then runs.
@@ -206,7 +209,7 @@ impl Region {
         ensures taken { at_item kept_of self.old.items at ≡ Some result }
         ensures left { self.new ≡ rewritten kept_of (λ kept. Body.Generator (after_take kept)) self.old at false }
     {
-        writes::take_kept(&mut self.items, at)
+        self.items.take_kept(at)
     }
 
     /// Gives a generator object a frame to keep, or its end.
@@ -214,7 +217,7 @@ impl Region {
         requires { IsSome (at_item kept_of self.old.items at) }
         ensures { self.new ≡ rewritten kept_of (λ _. Body.Generator (kept_from frame)) self.old at false }
     {
-        writes::put_kept(&mut self.items, at, frame)
+        self.items.put_kept(at, frame)
     }
 
     /// The place of the one literal of these units: a text that costs no elements, made where there is
@@ -231,13 +234,13 @@ impl Region {
         if let Some(at) = self.literals.get(units) {
             return Ok(at);
         }
-        writes::add_literal(alloc, &mut self.items, &mut self.literals, units)
+        self.items.add_literal(alloc, &mut self.literals, units)
     }
 
     /// Gives an item the frozen mark, if it is there.
     pub fn mark(&mut self, at: usize)
         ensures { self.new ≡ marked self.old at }
     {
-        writes::mark_item(&mut self.items, at)
+        self.items.mark(at)
     }
 }

@@ -50,7 +50,7 @@ pub fn type_of(regions: &Regions, a: Value) -> TypeName
             }
         }
         Value::Ref(r) => match regions.find(r) {
-            Some(item) => match &item.body {
+            Some(body) => match body {
                 Body::Text(_) => TypeName::Text,
                 Body::Closure(_) => TypeName::Function,
                 _ => TypeName::Object,

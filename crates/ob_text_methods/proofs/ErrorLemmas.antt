@@ -8,7 +8,7 @@ use Rattle.std.specs.List.{Contains}
 use Rattle.ob_items.specs.declared.value.Ref.{Ref}
 use Rattle.ob_items.specs.declared.value.RegionKey.{RegionKey}
 use Rattle.ob_items.specs.declared.value.Value.{Value}
-use Rattle.ob_items.specs.declared.item.Item.{Item}
+use Rattle.ob_items.specs.Item.{Item}
 use Rattle.ob_items.specs.declared.item.Body.{Body}
 use Rattle.ob_items.specs.declared.item.Body.TheVariants as B
 use Rattle.ob_items.specs.Bodies.{text_of}

@@ -153,8 +153,8 @@ fn put_units(out: &mut String, units: &[u16]) -> Result<(), Fail> {
 // The units of a text.
 fn put_text(out: &mut String, regions: &Regions, value: Value) -> Result<(), Fail> {
     if let Value::Ref(r) = value {
-        if let Some(item) = regions.find(r) {
-            if let Body::Text(units) = &item.body {
+        if let Some(body) = regions.find(r) {
+            if let Body::Text(units) = body {
                 return put_units(out, units.as_slice());
             }
         }
@@ -165,10 +165,10 @@ fn put_text(out: &mut String, regions: &Regions, value: Value) -> Result<(), Fai
 
 // The texts of an array, with a bar before each, or an error with its message.
 fn put_item(out: &mut String, regions: &Regions, r: Ref) -> Result<(), Fail> {
-    let Some(item) = regions.find(r) else {
+    let Some(body) = regions.find(r) else {
         return Ok(());
     };
-    match &item.body {
+    match body {
         Body::Array(values) => {
             for part in values.as_slice() {
                 out.push('|')?;

@@ -4,7 +4,7 @@ use Rattle.std.proofs.Common.{◌≡◌, ◌⊎◌, ℕ, zero, suc, Some, List, 
 use Rattle.std.proofs.lemmas.List.Elements.{Contains-append_cases}
 use Rattle.std.specs.List.{Contains}
 use Rattle.ob_items.specs.declared.value.Value.{Value}
-use Rattle.ob_items.specs.declared.item.Item.{Item}
+use Rattle.ob_items.specs.Item.{Item}
 use Rattle.ob_values.specs.Store.{Store, item_of}
 use Rattle.ob_values.specs.Reach.{Walk, Reaches}
 use Rattle.ob_values.specs.Sound.{Pointer, pointers_inside, pointers_from, pointers_of, leads_to, IsSound}

@@ -7,7 +7,7 @@ use Rattle.std.proofs.lemmas.Bool.{true≢false}
 use Rattle.std.specs.Option.{option_map_or}
 use Rattle.ob_items.specs.declared.value.Ref.{Ref}
 use Rattle.ob_items.specs.declared.value.RegionKey.{RegionKey}
-use Rattle.ob_items.specs.declared.item.Item.{Item}
+use Rattle.ob_items.specs.Item.{Item}
 use Rattle.ob_items.specs.Region.{Cells, with_item}
 use Rattle.ob_items.proofs.ListLemmas.{equal_or_not}
 use Rattle.ob_values.specs.Store.{Store, region_of, item_of, with_region, with_new, elements_in}

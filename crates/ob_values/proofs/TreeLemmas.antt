@@ -9,7 +9,7 @@ use Rattle.ob_items.specs.declared.value.Ref.{Ref}
 use Rattle.ob_items.specs.Properties.{values_of}
 use Rattle.ob_items.specs.declared.value.Value.{Value}
 use Rattle.ob_items.specs.declared.value.Value.TheVariants as V
-use Rattle.ob_items.specs.declared.item.Item.{Item}
+use Rattle.ob_items.specs.Item.{Item}
 use Rattle.ob_items.specs.declared.item.Body.{Body}
 use Rattle.ob_items.specs.declared.item.Body.TheVariants as B
 use Rattle.ob_values.specs.Freeze.{refs_of}

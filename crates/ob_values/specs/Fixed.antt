@@ -1,7 +1,7 @@
 -- Items that stay as they are (this project): those that are frozen, and those of a kind that no call writes.
 use Rattle.std.specs.Prelude.{◌≡◌, ◌||◌, Bool, true, false, Some, IsTrue}
 use Rattle.ob_items.specs.declared.value.Ref.{Ref}
-use Rattle.ob_items.specs.declared.item.Item.{Item}
+use Rattle.ob_items.specs.Item.{Item}
 use Rattle.ob_items.specs.declared.item.Body.{Body}
 use Rattle.ob_items.specs.declared.item.Body.TheVariants as B
 use Rattle.ob_values.specs.Store.{Store, item_of}

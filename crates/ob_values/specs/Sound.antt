@@ -11,7 +11,7 @@ use Rattle.ob_items.specs.declared.frame.Frame.{Frame}
 use Rattle.ob_items.specs.declared.frame.Taken.{Taken}
 use Rattle.ob_items.specs.declared.frame.Taken.TheVariants as T
 use Rattle.ob_items.specs.declared.item.Closure.{Closure}
-use Rattle.ob_items.specs.declared.item.Item.{Item}
+use Rattle.ob_items.specs.Item.{Item}
 use Rattle.ob_items.specs.declared.item.Body.{Body}
 use Rattle.ob_items.specs.declared.item.Body.TheVariants as B
 use Rattle.ob_values.specs.Freeze.{option_list}

@@ -7,7 +7,7 @@ use Rattle.ob_items.specs.declared.value.Value.{Value}
 use Rattle.ob_items.specs.declared.value.Value.TheVariants as V
 use Rattle.ob_items.specs.declared.value.Ref.{Ref}
 use Rattle.ob_items.specs.declared.value.RegionKey.{RegionKey}
-use Rattle.ob_items.specs.declared.item.Item.{Item}
+use Rattle.ob_items.specs.Item.{Item}
 use Rattle.ob_items.specs.declared.item.Body.{Body}
 
 -- for each key its region, or nothing
@@ -28,6 +28,10 @@ item_of s r = option_map_or (λ c. slice_get c.items r.item) (region_of s r.regi
 -- what a reader of items gives of it
 abbrev pub read_item : {X : Type 0} → (Body → Option X) → Store → Ref → Option X
 read_item read s r = option_map_or (λ c. at_item read c.items r.item) (region_of s r.region.0) None
+
+-- its body
+abbrev pub body_of : Store → Ref → Option Body
+body_of s r = read_item (λ body. Some body) s r
 
 abbrev pub is_frozen : Store → Ref → Bool
 is_frozen s r = option_map_or (λ c. is_frozen_at c.items r.item) (region_of s r.region.0) false

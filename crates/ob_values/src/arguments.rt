@@ -62,7 +62,7 @@ pub fn elements_of(regions: &Regions, r: Ref) -> &[Value]
     ensures { result.now ≡ elements_at regions.now r }
 {
     match regions.find(r) {
-        Some(item) => match &item.body {
+        Some(body) => match body {
             Body::Array(values) => values.as_slice(),
             _ => &[],
         },
@@ -76,7 +76,7 @@ pub fn array_of(regions: &Regions, value: Value) -> Option<&[Value]>
 {
     match value {
         Value::Ref(r) => match regions.find(r) {
-            Some(item) => match &item.body {
+            Some(body) => match body {
                 Body::Array(values) => Some(values.as_slice()),
                 _ => None,
             },
@@ -93,7 +93,7 @@ pub fn text_in(regions: &Regions, value: Value) -> Option<&[u16]>
 {
     match value {
         Value::Ref(r) => match regions.find(r) {
-            Some(item) => match &item.body {
+            Some(body) => match body {
                 Body::Text(units) => Some(units.as_slice()),
                 _ => None,
             },

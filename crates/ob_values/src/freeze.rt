@@ -43,7 +43,7 @@ fn add_item(alloc: Global, seen: &mut Seen, regions: &Regions, r: Ref) -> Result
     ensures { OnOk result (seen.new ≡ with_refs seen.old (frozen_next regions.now r)) }
 {
     match regions.find(r) {
-        Some(item) => add_inside(alloc, seen, &item.body),
+        Some(body) => add_inside(alloc, seen, body),
         None => Ok(()),
     }
 }

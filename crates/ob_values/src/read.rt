@@ -18,7 +18,7 @@ impl Regions {
         ensures { option_map (λ n. min n 4294967295) (read_item length_of self.now r) ≡ Some result }
     {
         match self.find(r) {
-            Some(item) => match &item.body {
+            Some(body) => match body {
                 Body::Text(units) => capped(units.as_slice().len()),
                 Body::Array(values) | Body::Inputs(values) => capped(values.len()),
                 _ => unreachable!(),
@@ -36,7 +36,7 @@ impl Regions {
         ensures { IfOk result (λ keys. option_map keys_of (read_item properties_of self.now r) ≡ Some keys) }
     {
         match self.find(r) {
-            Some(item) => match &item.body {
+            Some(body) => match body {
                 Body::Object(properties) => properties.keys(self.alloc()),
                 _ => unreachable!(),
             },
@@ -48,7 +48,7 @@ impl Regions {
         ensures { option_copied result ≡ read_item text_of self.now r }
     {
         match self.find(r) {
-            Some(item) => match &item.body {
+            Some(body) => match body {
                 Body::Text(units) => Some(units.as_slice()),
                 _ => None,
             },

@@ -7,10 +7,10 @@ ghost use Rattle.ob_items.specs.Region.{no_cells};
 ghost use Rattle.ob_items.specs.declared.value.Ref.{Ref as TheRef};
 ghost use Rattle.ob_values.specs.Fixed.{KeepsFixed, KeepsFixedAt};
 ghost use Rattle.ob_values.specs.Sound.{KeepsSound, KeepsOutside};
-ghost use Rattle.ob_values.specs.Store.{region_of, IsOpen, item_of, read_item, is_frozen, elements_in, Updates, element};
+ghost use Rattle.ob_values.specs.Store.{region_of, IsOpen, item_of, body_of, read_item, is_frozen, elements_in, Updates, element};
 
 use ob_base::{List, NoMemory, Units};
-use ob_items::{Body, Closure, CodeKey, Item, Kind, Ref, Region, RegionKey, Value};
+use ob_items::{Body, Closure, CodeKey, Kind, Ref, Region, RegionKey, Value};
 use slab::Slab;
 use std::alloc::Global;
 use std::marker::Model;
@@ -106,27 +106,13 @@ impl Regions {
         }
     }
 
-    /// The item that a reference points to, if it is there.
-    pub fn find(&self, r: Ref) -> Option<&Item>
-        ensures { option_copied result ≡ item_of self.now r }
+    /// The body of the item that a reference points to, if it is there.
+    pub fn find(&self, r: Ref) -> Option<&Body>
+        ensures { option_copied result ≡ body_of self.now r }
     {
         match self.slots.get(r.region.0) {
             Some(region) => region.find(r.item),
             None => None,
-        }
-    }
-
-    /// The item that a reference points to.
-    pub fn item(&self, r: Ref) -> &Item
-        requires { IsSome (item_of self.now r) }
-        ensures { item_of self.now r ≡ Some result.now }
-    {
-        match self.slots.get(r.region.0) {
-            Some(region) => match region.find(r.item) {
-                Some(item) => item,
-                None => unreachable!(),
-            },
-            None => unreachable!(),
         }
     }
 
@@ -135,15 +121,9 @@ impl Regions {
         requires { IsSome (item_of self.now r) }
         ensures { option_map (λ item. kind_of item.body) (item_of self.now r) ≡ Some result }
     {
-        match &self.item(r).body {
-            Body::Text(_) => Kind::Text,
-            Body::Array(_) | Body::Inputs(_) => Kind::Array,
-            Body::Object(_) => Kind::Object,
-            Body::Box(_) => Kind::Box,
-            Body::Closure(_) => Kind::Closure,
-            Body::Generator(_) => Kind::Generator,
-            Body::Error(kind, _) => Kind::Error(*kind),
-            Body::Invalidation(_) => Kind::Invalidation,
+        match self.find(r) {
+            Some(body) => kind_of(body),
+            None => unreachable!(),
         }
     }
 
@@ -152,7 +132,10 @@ impl Regions {
         requires { IsSome (item_of self.now r) }
         ensures { result ≡ is_frozen self.now r }
     {
-        self.item(r).frozen
+        match self.slots.get(r.region.0) {
+            Some(region) => region.is_frozen(r.item),
+            None => unreachable!(),
+        }
     }
 
     /// The element of an array at an index, from 0, and undefined outside. It takes no memory.
@@ -161,7 +144,7 @@ impl Regions {
         ensures { IfSome (read_item elements_of self.now r) (λ values. result ≡ element values index) }
     {
         match self.find(r) {
-            Some(item) => match &item.body {
+            Some(body) => match body {
                 Body::Array(values) | Body::Inputs(values) => element_at(values, index),
                 _ => unreachable!(),
             },
@@ -175,7 +158,7 @@ impl Regions {
         ensures { IfSome (read_item properties_of self.now r) (λ properties. result ≡ property properties key.now) }
     {
         match self.find(r) {
-            Some(item) => match &item.body {
+            Some(body) => match body {
                 Body::Object(properties) => properties.get(key.as_slice()),
                 _ => unreachable!(),
             },
@@ -189,7 +172,7 @@ impl Regions {
         ensures { read_item box_of self.now r ≡ Some result }
     {
         match self.find(r) {
-            Some(item) => match &item.body {
+            Some(body) => match body {
                 Body::Box(binding) => binding.get(),
                 _ => unreachable!(),
             },
@@ -203,7 +186,7 @@ impl Regions {
         ensures { read_item text_of self.now r ≡ Some result.now }
     {
         match self.find(r) {
-            Some(item) => match &item.body {
+            Some(body) => match body {
                 Body::Text(units) => units.as_slice(),
                 _ => unreachable!(),
             },
@@ -217,7 +200,7 @@ impl Regions {
         ensures { read_item message_of_error self.now r ≡ Some result }
     {
         match self.find(r) {
-            Some(item) => match &item.body {
+            Some(body) => match body {
                 Body::Error(_, message) => *message,
                 _ => unreachable!(),
             },
@@ -230,7 +213,7 @@ impl Regions {
         ensures { read_item closure_of self.now r ≡ Some result.now }
     {
         match self.find(r) {
-            Some(item) => match &item.body {
+            Some(body) => match body {
                 Body::Closure(closure) => closure.get(),
                 _ => unreachable!(),
             },
@@ -260,6 +243,21 @@ impl Regions {
         ensures { option_map (λ closure. closure.inputs) (read_item closure_of self.now r) ≡ Some result }
     {
         self.closure(r).inputs
+    }
+}
+
+fn kind_of(body: &Body) -> Kind
+    ensures { result ≡ kind_of body.now }
+{
+    match body {
+        Body::Text(_) => Kind::Text,
+        Body::Array(_) | Body::Inputs(_) => Kind::Array,
+        Body::Object(_) => Kind::Object,
+        Body::Box(_) => Kind::Box,
+        Body::Closure(_) => Kind::Closure,
+        Body::Generator(_) => Kind::Generator,
+        Body::Error(kind, _) => Kind::Error(*kind),
+        Body::Invalidation(_) => Kind::Invalidation,
     }
 }
 

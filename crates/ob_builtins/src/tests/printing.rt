@@ -100,7 +100,7 @@ fn put_text(out: &mut String, units: &[u16]) -> Result<(), BadRow> {
 fn body_of(regions: &Regions, value: Value) -> Option<&Body> {
     match value {
         Value::Ref(r) => match regions.find(r) {
-            Some(item) => Some(&item.body),
+            Some(body) => Some(body),
             None => None,
         },
         _ => None,

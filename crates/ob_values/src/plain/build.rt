@@ -24,7 +24,7 @@ pub(super) fn plain_value(
         Value::Int(number) => Ok(plain_number(number)),
         Value::Builtin(_) | Value::Holder(_) => Ok(None),
         Value::Ref(r) => match regions.find(r) {
-            Some(item) => plain_from(alloc, regions, &item.body, depth),
+            Some(body) => plain_from(alloc, regions, body, depth),
             None => Ok(None),
         },
     }

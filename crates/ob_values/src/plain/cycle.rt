@@ -44,7 +44,7 @@ fn enter_items(alloc: Global, regions: &Regions, r: Ref, stack: &mut Stack) -> R
     ensures small { OnOk result (length stack.new < 2 ^ 64) }
 {
     match regions.find(r) {
-        Some(item) => enter_parts(alloc, &item.body, stack)?,
+        Some(body) => enter_parts(alloc, body, stack)?,
         None => {}
     }
     let _ = stack.len();

@@ -41,7 +41,7 @@ fn add_items(
     ensures items { IfOk result (λ cost. OnSome cost (waiting.new ≡ waiting.old ++ items_in regions.now r)) }
 {
     match regions.find(r) {
-        Some(item) => add_inside(alloc, &item.body, room, waiting),
+        Some(body) => add_inside(alloc, body, room, waiting),
         None => Ok(Some(0)),
     }
 }

@@ -26,7 +26,7 @@ impl Regions {
         ensures { result ≡ is_some (read_item text_of self.now r) }
     {
         match self.find(r) {
-            Some(item) => matches!(&item.body, Body::Text(_)),
+            Some(body) => matches!(body, Body::Text(_)),
             None => false,
         }
     }
@@ -36,7 +36,7 @@ impl Regions {
         ensures { result ≡ is_some (read_item array_of self.now r) }
     {
         match self.find(r) {
-            Some(item) => matches!(&item.body, Body::Array(_)),
+            Some(body) => matches!(body, Body::Array(_)),
             None => false,
         }
     }
@@ -46,7 +46,7 @@ impl Regions {
         ensures { result ≡ is_some (read_item properties_of self.now r) }
     {
         match self.find(r) {
-            Some(item) => matches!(&item.body, Body::Object(_)),
+            Some(body) => matches!(body, Body::Object(_)),
             None => false,
         }
     }
@@ -56,7 +56,7 @@ impl Regions {
         ensures { result ≡ is_some (read_item box_of self.now r) }
     {
         match self.find(r) {
-            Some(item) => matches!(&item.body, Body::Box(_)),
+            Some(body) => matches!(body, Body::Box(_)),
             None => false,
         }
     }
@@ -66,7 +66,7 @@ impl Regions {
         ensures { result ≡ is_some (read_item closure_of self.now r) }
     {
         match self.find(r) {
-            Some(item) => matches!(&item.body, Body::Closure(_)),
+            Some(body) => matches!(body, Body::Closure(_)),
             None => false,
         }
     }
@@ -76,7 +76,7 @@ impl Regions {
         ensures { result ≡ is_some (read_item kept_of self.now r) }
     {
         match self.find(r) {
-            Some(item) => matches!(&item.body, Body::Generator(_)),
+            Some(body) => matches!(body, Body::Generator(_)),
             None => false,
         }
     }
@@ -86,7 +86,7 @@ impl Regions {
         ensures { result ≡ is_some (read_item message_of_error self.now r) }
     {
         match self.find(r) {
-            Some(item) => matches!(&item.body, Body::Error(_, _)),
+            Some(body) => matches!(body, Body::Error(_, _)),
             None => false,
         }
     }
@@ -96,7 +96,7 @@ impl Regions {
         ensures { result ≡ is_some (read_item hooks_of self.now r) }
     {
         match self.find(r) {
-            Some(item) => matches!(&item.body, Body::Invalidation(_)),
+            Some(body) => matches!(body, Body::Invalidation(_)),
             None => false,
         }
     }

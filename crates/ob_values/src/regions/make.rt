@@ -10,7 +10,7 @@ ghost use Rattle.ob_values.specs.Store.{IsOpen, read_item, elements_in, with_new
 use crate::regions::Regions;
 use ob_base::{List, NoMemory, Units};
 use ob_items::{
-    AllocError, Binding, Body, Boxed, Closure, CodeKey, ErrorKind, Frame, Item, Properties, Ref,
+    AllocError, Binding, Body, Boxed, Closure, CodeKey, ErrorKind, Frame, Properties, Ref,
     RegionKey, Suspended, Taken, Value,
 };
 
@@ -53,16 +53,10 @@ impl Regions {
         ensures err { OnErr result (self.new ≡ self.old) }
     {
         match self.slots.get_mut(region.0) {
-            Some(cells) => {
-                let item = Item {
-                    frozen: false,
-                    body,
-                };
-                match cells.add(item, cost) {
-                    Ok(item) => Ok(Ref { region, item }),
-                    Err(_) => Err(AllocError::NoMemory),
-                }
-            }
+            Some(cells) => match cells.add(body, cost) {
+                Ok(item) => Ok(Ref { region, item }),
+                Err(_) => Err(AllocError::NoMemory),
+            },
             None => unreachable!(),
         }
     }
@@ -87,11 +81,7 @@ impl Regions {
         match self.slots.get_mut(region.0) {
             Some(cells) => {
                 let _ = cells.elements();
-                let item = Item {
-                    frozen: false,
-                    body,
-                };
-                match cells.add(item, 0) {
+                match cells.add(body, 0) {
                     Ok(item) => Ok(Ref { region, item }),
                     Err(_) => Err(NoMemory),
                 }

@@ -6,6 +6,6 @@ use Rattle.ob_items.proofs.region.Region.fill_box.Goals as goal
 
 pub invariant_of-self : goal.invariant_of-self
 invariant_of-self c = record {
-  literals = AreLiterals-written box_of (λ _. B.Box (Some c.args.value)) (λ units. refl) c.fill_box.result c.self.inside.items.items c.fill_box.new.items.items c.args.at c.self.inside.literals c.fill_box.ensures.ok c.fill_box.ensures.err c.self.invariant.literals;
+  literals = AreLiterals-written box_of (λ _. B.Box (Some c.args.value)) (λ units. refl) c.fill_box.result c.self.inside.items c.fill_box.new.self c.args.at c.self.inside.literals c.fill_box.ensures.ok c.fill_box.ensures.err c.self.invariant.literals;
   elements = c.self.invariant.elements;
 }

@@ -6,6 +6,6 @@ use Rattle.ob_items.proofs.region.Region.remove_element.Goals as goal
 
 pub invariant_of-self : goal.invariant_of-self
 invariant_of-self c = record {
-  literals = AreLiterals-written array_of (λ vs. B.Array (remove vs c.args.index)) (λ units. refl) c.remove_element.result c.self.inside.items.items c.remove_element.new.items.items c.args.at c.self.inside.literals c.remove_element.ensures.ok c.remove_element.ensures.err c.self.invariant.literals;
+  literals = AreLiterals-written array_of (λ vs. B.Array (remove vs c.args.index)) (λ units. refl) c.remove_element.result c.self.inside.items c.remove_element.new.self c.args.at c.self.inside.literals c.remove_element.ensures.ok c.remove_element.ensures.err c.self.invariant.literals;
   elements = c.self.invariant.elements;
 }

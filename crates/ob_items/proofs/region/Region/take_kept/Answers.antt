@@ -7,6 +7,6 @@ use Rattle.ob_items.proofs.region.Region.take_kept.Goals as goal
 
 pub invariant_of-self : goal.invariant_of-self
 invariant_of-self c = record {
-  literals = subst (λ xs. AreLiterals xs c.self.inside.literals) (sym c.take_kept.ensures.left) (AreLiterals-changed kept_of (λ kept. B.Generator (after_take kept)) (λ units. refl) c.self.inside.items.items c.args.at c.self.inside.literals c.self.invariant.literals);
+  literals = subst (λ xs. AreLiterals xs c.self.inside.literals) (sym c.take_kept.ensures.left) (AreLiterals-changed kept_of (λ kept. B.Generator (after_take kept)) (λ units. refl) c.self.inside.items c.args.at c.self.inside.literals c.self.invariant.literals);
   elements = c.self.invariant.elements;
 }
