@@ -4,10 +4,14 @@ ghost use Rattle.ob_items.specs.Bodies.{text_of, array_of, properties_of, box_of
 ghost use Rattle.ob_items.specs.Properties.{with_property};
 ghost use Rattle.ob_items.specs.Items.{at_item, is_frozen_at, fault_of, count_at, is_new_at, element_fault, with_element, property_fault, frozen_fault, hook_fault, hooks_at};
 
-use crate::{Body, Frame, HookError, Item, SetError, Taken, UnitsMap, Value, writes};
+use crate::{
+    Body, Frame, HookError, Item, SetError, SharedFunction, SharedFunctions, Taken, UnitsMap,
+    Value, writes,
+};
 use ob_base::{MAX_REGION_ELEMENTS, NoMemory, Units};
 use std::alloc::Global;
 use std::marker::Model;
+use std::rc::Rc;
 
 /// The items of a run, in the order of allocation, with the elements that they cost.
 #[derive(Drop)]
@@ -15,6 +19,7 @@ pub struct Region {
     items: Vec<Item>,
     elements: u32,
     literals: UnitsMap<usize>,
+    functions: SharedFunctions,
 }
 
 impl Model for Region {
@@ -38,6 +43,7 @@ impl Region {
             items: Vec::new(alloc),
             elements: 0,
             literals: UnitsMap::new(alloc),
+            functions: SharedFunctions::new(alloc),
         }
     }
 
@@ -232,6 +238,21 @@ impl Region {
             return Ok(at);
         }
         writes::add_literal(alloc, &mut self.items, &mut self.literals, units)
+    }
+
+    /// What the function values of the region with these parts share. The items are as before.
+    ///
+    /// # Errors
+    /// `NoMemory` where an allocation is refused.
+    pub fn share(
+        &mut self,
+        alloc: Global,
+        function: SharedFunction,
+    ) -> Result<Rc<SharedFunction>, NoMemory>
+        ensures value { IfOk result (λ shared. shared.value ≡ function) }
+        ensures kept { self.new ≡ self.old }
+    {
+        self.functions.share(alloc, function)
     }
 
     /// Gives an item the frozen mark, if it is there.
