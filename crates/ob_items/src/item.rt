@@ -1,9 +1,8 @@
 ghost use Rattle.std.specs.Prelude.{◌≡◌, IfOk};
 ghost use Rattle.ob_items.specs.Bodies.{after_take};
 
-use crate::{Binding, CodeKey, ErrorKind, Properties, Ref, Taken, Value};
+use crate::{Binding, CodeKey, ErrorKind, FunctionValue, Properties, Ref, Taken, Value};
 use ob_base::{List, NoMemory, Units};
-use sqlite_items::Boxed;
 use std::alloc::Global;
 use std::marker::Model;
 use std::mem;
@@ -16,7 +15,7 @@ pub enum Body {
     Object(Properties),
     /// The box of a captured binding; none before its declaration has run.
     Box(Binding),
-    Closure(Boxed<Closure>),
+    Closure(FunctionValue),
     Generator(Suspended),
     /// An error, and the text of its message.
     Error(ErrorKind, Ref),
@@ -26,7 +25,7 @@ pub enum Body {
     Inputs(List<Value>),
 }
 
-/// A function value.
+/// What contracts see of a function value; it is kept as a `FunctionValue`.
 #[derive(Drop)]
 pub struct Closure {
     pub code: CodeKey,

@@ -5,10 +5,13 @@ ghost use Rattle.ob_items.specs.Properties.{with_property};
 ghost use Rattle.ob_items.specs.Items.{at_item, is_frozen_at, live, fault_of, count_at, is_new_at, element_fault, with_element, property_fault, frozen_fault, hook_fault, hooks_at};
 
 use crate::columns::ItemColumns;
-use crate::{Body, Frame, HookError, SetError, Taken, UnitsMap, Value};
+use crate::{
+    Body, Frame, HookError, SetError, SharedFunction, SharedFunctions, Taken, UnitsMap, Value,
+};
 use ob_base::{MAX_REGION_ELEMENTS, NoMemory, Units};
 use std::alloc::Global;
 use std::marker::Model;
+use std::rc::Rc;
 
 /// The items of a run, in the order of allocation, with the elements that they cost.
 #[derive(Drop)]
@@ -16,6 +19,7 @@ pub struct Region {
     items: ItemColumns,
     elements: u32,
     literals: UnitsMap<usize>,
+    functions: SharedFunctions,
 }
 
 impl Model for Region {
@@ -39,6 +43,7 @@ impl Region {
             items: ItemColumns::new(alloc),
             elements: 0,
             literals: UnitsMap::new(alloc),
+            functions: SharedFunctions::new(alloc),
         }
     }
 
@@ -235,6 +240,21 @@ impl Region {
             return Ok(at);
         }
         self.items.add_literal(alloc, &mut self.literals, units)
+    }
+
+    /// What the function values of the region with these parts share. The items are as before.
+    ///
+    /// # Errors
+    /// `NoMemory` where an allocation is refused.
+    pub fn share(
+        &mut self,
+        alloc: Global,
+        function: SharedFunction,
+    ) -> Result<Rc<SharedFunction>, NoMemory>
+        ensures value { IfOk result (λ shared. shared.value ≡ function) }
+        ensures kept { self.new ≡ self.old }
+    {
+        self.functions.share(alloc, function)
     }
 
     /// Gives an item the frozen mark, if it is there.

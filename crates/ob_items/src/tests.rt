@@ -1,5 +1,9 @@
-use crate::{ErrorKind, Properties, Thrown, Value, decimal_units, index_of, integer_units};
+use crate::{
+    CodeKey, ErrorKind, Properties, Ref, RegionKey, SharedFunction, SharedFunctions, Thrown, Value,
+    decimal_units, index_of, integer_units,
+};
 use ob_base::Units;
+use std::rc::Rc;
 use std::test::Fail;
 
 #[test]
@@ -49,5 +53,36 @@ fn errors_have_kinds_and_messages(rt: HostRuntime) -> Result<(), Fail> {
     assert!(rt; Thrown::NotPlain.kind() == ErrorKind::TypeError);
     assert!(rt; Thrown::UsedBefore.kind() == ErrorKind::ReferenceError);
     assert!(rt; Thrown::PastEnd.kind() == ErrorKind::RangeError);
+    Ok(())
+}
+
+// What function values of one code share, with the array of the inputs at this place.
+fn function(inputs: usize) -> SharedFunction {
+    SharedFunction {
+        code: CodeKey {
+            code: 3,
+            function: 1,
+        },
+        inputs: Ref {
+            region: RegionKey(0),
+            item: inputs,
+        },
+        invalidation: None,
+    }
+}
+
+#[test]
+fn functions_of_one_text_share(rt: HostRuntime) -> Result<(), Fail> {
+    let alloc = rt.alloc();
+    let mut functions = SharedFunctions::new(alloc);
+    let first = functions.share(alloc, function(7))?;
+    let second = functions.share(alloc, function(7))?;
+    // These two, and the one that is kept.
+    assert_eq!(rt; Rc::strong_count(&first), 3);
+    let other = functions.share(alloc, function(8))?;
+    assert!(rt; *second == function(7));
+    assert!(rt; *other == function(8));
+    assert_eq!(rt; Rc::strong_count(&first), 2);
+    assert_eq!(rt; Rc::strong_count(&other), 2);
     Ok(())
 }

@@ -3,7 +3,7 @@
 pub struct RegionKey(pub usize);
 
 /// A function of a chunk of code: its place in text order, where 0 is the chunk itself.
-#[derive(Clone, Copy, Debug, PartialEq, Eq)]
+#[derive(Clone, Copy, Debug, PartialEq, Eq, Hash)]
 pub struct CodeKey {
     pub code: usize,
     pub function: usize,

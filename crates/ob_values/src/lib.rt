@@ -14,8 +14,8 @@ mod seen;
 pub use arguments::{argument, array_of, elements_of, found, places_of, text_in};
 pub use done::Done;
 pub use ob_items::{
-    AllocError, Body, Boxed, Catch, Closure, CodeKey, ErrorKind, Failure, Frame, HookError, Kind,
-    OpError, PlainError, Ref, RegionKey, SetError, Taken, TextError, Thrown, Value,
+    AllocError, Body, Catch, Closure, CodeKey, ErrorKind, Failure, Frame, HookError, Kind, OpError,
+    PlainError, Ref, RegionKey, SetError, Taken, TextError, Thrown, Value,
 };
 pub use regions::{Regions, text_elements};
 

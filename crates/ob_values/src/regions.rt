@@ -10,7 +10,7 @@ ghost use Rattle.ob_values.specs.Sound.{KeepsSound, KeepsOutside};
 ghost use Rattle.ob_values.specs.Store.{region_of, IsOpen, item_of, body_of, read_item, is_frozen, elements_in, Updates, element};
 
 use ob_base::{List, NoMemory, Units};
-use ob_items::{Body, Closure, CodeKey, Kind, Ref, Region, RegionKey, Value};
+use ob_items::{Body, CodeKey, FunctionValue, Kind, Ref, Region, RegionKey, Value};
 use slab::Slab;
 use std::alloc::Global;
 use std::marker::Model;
@@ -208,13 +208,13 @@ impl Regions {
         }
     }
 
-    fn closure(&self, r: Ref) -> &Closure
+    fn closure(&self, r: Ref) -> &FunctionValue
         requires { IsSome (read_item closure_of self.now r) }
         ensures { read_item closure_of self.now r ≡ Some result.now }
     {
         match self.find(r) {
             Some(body) => match body {
-                Body::Closure(closure) => closure.get(),
+                Body::Closure(closure) => closure,
                 _ => unreachable!(),
             },
             None => unreachable!(),
@@ -226,7 +226,7 @@ impl Regions {
         requires { IsSome (read_item closure_of self.now r) }
         ensures { option_map (λ closure. closure.code) (read_item closure_of self.now r) ≡ Some result }
     {
-        self.closure(r).code
+        self.closure(r).code()
     }
 
     /// The boxes of a function value.
@@ -234,7 +234,7 @@ impl Regions {
         requires { IsSome (read_item closure_of self.now r) }
         ensures { option_map (λ closure. closure.boxes) (read_item closure_of self.now r) ≡ Some result.now }
     {
-        self.closure(r).boxes.as_slice()
+        self.closure(r).boxes()
     }
 
     /// The array of the inputs of a function value.
@@ -242,7 +242,7 @@ impl Regions {
         requires { IsSome (read_item closure_of self.now r) }
         ensures { option_map (λ closure. closure.inputs) (read_item closure_of self.now r) ≡ Some result }
     {
-        self.closure(r).inputs
+        self.closure(r).inputs()
     }
 }
 

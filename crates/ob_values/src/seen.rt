@@ -133,10 +133,7 @@ pub fn add_inside(alloc: Global, seen: &mut Seen, body: &Body) -> Result<(), NoM
         Body::Array(values) => add_values(seen, values.as_slice()),
         Body::Object(properties) => add_properties(alloc, seen, properties),
         Body::Box(binding) => add_option(seen, binding.get()),
-        Body::Closure(closure) => {
-            let closure = closure.get();
-            add_closure(seen, closure.boxes.as_slice(), closure.invalidation)
-        }
+        Body::Closure(closure) => add_closure(seen, closure.boxes(), closure.invalidation()),
         _ => Ok(()),
     }
 }

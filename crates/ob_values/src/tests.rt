@@ -597,3 +597,27 @@ fn a_function_keeps_its_parts(rt: HostRuntime) -> Result<(), Fail> {
     assert!(rt; unboxed(&regions, cell) == Some(Value::Int(8)));
     Ok(())
 }
+
+#[test]
+fn functions_of_one_text_differ(rt: HostRuntime) -> Result<(), Fail> {
+    let mut regions = Regions::new(rt.alloc());
+    let key = regions.open()?;
+    let first = inputs(&mut regions, key, &[Value::Null])?;
+    let second = inputs(&mut regions, key, &[])?;
+    let hook = invalidation(&mut regions, key)?;
+    let cells = [
+        boxed(&mut regions, key, None)?,
+        boxed(&mut regions, key, Some(Value::Int(8)))?,
+    ];
+    let bare = closure(&mut regions, key, &[], first, None)?;
+    let holding = closure(&mut regions, key, &cells, first, None)?;
+    let other = closure(&mut regions, key, &cells, second, Some(hook))?;
+    assert!(rt; has_parts(&regions, bare, &[], first));
+    assert!(rt; has_parts(&regions, holding, &cells, first));
+    assert!(rt; has_parts(&regions, other, &cells, second));
+    regions.freeze(Value::Ref(holding))?;
+    assert!(rt; is_frozen(&regions, hook) == Some(false));
+    regions.freeze(Value::Ref(other))?;
+    assert!(rt; is_frozen(&regions, hook) == Some(true));
+    Ok(())
+}

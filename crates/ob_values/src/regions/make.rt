@@ -10,9 +10,10 @@ ghost use Rattle.ob_values.specs.Store.{IsOpen, read_item, elements_in, with_new
 use crate::regions::Regions;
 use ob_base::{List, NoMemory, Units};
 use ob_items::{
-    AllocError, Binding, Body, Boxed, Closure, CodeKey, ErrorKind, Frame, Properties, Ref,
-    RegionKey, Suspended, Taken, Value,
+    AllocError, Binding, Body, CodeKey, ErrorKind, Frame, FunctionValue, Properties, Ref,
+    RegionKey, SharedFunction, Suspended, Taken, Value,
 };
+use std::rc::Rc;
 
 impl Regions {
     /// Whether a region's elements and so many more are more than 50,000. It takes no memory.
@@ -244,18 +245,46 @@ impl Regions {
         if self.is_full_for(region, 1) {
             return Err(AllocError::HeapFull);
         }
-        let Ok(boxes) = List::from_slice(self.alloc, boxes) else {
-            return Err(AllocError::NoMemory);
-        };
-        let closure = Closure {
+        let function = SharedFunction {
             code,
-            boxes,
             inputs,
             invalidation,
         };
-        match Boxed::new(self.alloc, closure) {
+        match self.function_value(region, function, boxes) {
             Ok(closure) => self.add(region, Body::Closure(closure), 1),
             Err(_) => Err(AllocError::NoMemory),
+        }
+    }
+
+    // A function value with these boxes, which shares the rest with others of the region.
+    fn function_value(
+        &mut self,
+        region: RegionKey,
+        function: SharedFunction,
+        boxes: &[Ref],
+    ) -> Result<FunctionValue, NoMemory>
+        requires { IsOpen self.old region }
+        ensures value { IfOk result (λ f. f ≡ record { code = function.code; boxes = boxes.now; inputs = function.inputs; invalidation = function.invalidation }) }
+        ensures kept { self.new ≡ self.old }
+    {
+        match self.share(region, function) {
+            Ok(shared) => FunctionValue::new(self.alloc, shared, boxes),
+            Err(refused) => Err(refused),
+        }
+    }
+
+    fn share(
+        &mut self,
+        region: RegionKey,
+        function: SharedFunction,
+    ) -> Result<Rc<SharedFunction>, NoMemory>
+        requires { IsOpen self.old region }
+        ensures value { IfOk result (λ shared. shared.value ≡ function) }
+        ensures kept { self.new ≡ self.old }
+    {
+        match self.slots.get_mut(region.0) {
+            Some(cells) => cells.share(self.alloc, function),
+            None => unreachable!(),
         }
     }
 
