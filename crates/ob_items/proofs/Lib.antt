@@ -1,4 +1,5 @@
 pub mod DecimalLemmas
+pub mod FewLemmas
 pub mod ListLemmas
 pub mod LiteralLemmas
 mod NumberRows

@@ -1,7 +1,9 @@
 pub mod Binding
 pub mod Bodies
+pub mod Distinct
 pub mod IndexText
 pub mod Items
+pub mod Kept
 pub mod Messages
 pub mod Numbers
 pub mod Properties

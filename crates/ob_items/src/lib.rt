@@ -4,9 +4,11 @@
 
 mod binding;
 mod error;
+mod few;
 mod frame;
 mod index_text;
 mod item;
+mod many;
 mod properties;
 mod region;
 mod thrown;
