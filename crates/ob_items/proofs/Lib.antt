@@ -1,5 +1,6 @@
 pub mod ColumnLemmas
 pub mod DecimalLemmas
+pub mod FewLemmas
 pub mod ListLemmas
 pub mod LiteralLemmas
 mod NumberRows

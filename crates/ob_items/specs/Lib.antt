@@ -1,9 +1,11 @@
 pub mod Binding
 pub mod Bodies
 pub mod Columns
+pub mod Distinct
 pub mod IndexText
 pub mod Item
 pub mod Items
+pub mod Kept
 pub mod Messages
 pub mod Numbers
 pub mod Properties

@@ -19,6 +19,10 @@ pub record Keyed : Type 0 where
 abbrev pub no_properties : Keyed
 no_properties = record { indices = []; named = [] }
 
+-- these properties, none of them at an array index
+abbrev pub only_named : List (List ℕ × Value) → Keyed
+only_named named = record { indices = []; named = named }
+
 -- the value at a key
 abbrev pub property : Keyed → List ℕ → Option Value
 property p key =

@@ -5,10 +5,12 @@
 mod binding;
 mod columns;
 mod error;
+mod few;
 mod frame;
 mod function_value;
 mod index_text;
 mod item;
+mod many;
 mod properties;
 mod region;
 mod shared_functions;

@@ -1,18 +1,23 @@
-ghost use Rattle.std.specs.Prelude.{◌≡◌, ◌≤◌, ◌==◌, ◌++◌, IfOk, OnOk, OnErr, length, map, take, decimal};
-ghost use Rattle.ob_items.specs.Properties.{property, with_property, no_properties, count, values_of, keys_of, entries_of, index_entry, named_entry};
+ghost use Rattle.std.specs.Prelude.{◌≡◌, ◌==◌, IfOk, OnOk, OnErr, take, option_map, unwrap_or};
+ghost use Rattle.ob_items.specs.Properties.{property, with_property, no_properties, only_named, count, values_of, keys_of, entries_of};
+ghost use Rattle.ob_items.specs.Kept.{properties_kept};
 
-use crate::index_text::{decimal_units, index_of};
+use crate::few::{FewProperties, MAX_FEW};
+use crate::index_text::index_of;
+use crate::many::ManyProperties;
 use crate::{UnitsMap, Value};
 use ob_base::{List, NoMemory, Units};
 use std::alloc::Global;
-use std::collections::BTreeMap;
 use std::marker::Model;
 
 /// The properties of an object, in the order of their keys (ECMA-262, "OrdinaryOwnPropertyKeys").
 #[derive(Drop)]
 pub struct Properties {
-    maps: Box<PropertyMaps>,
+    kept: Kept,
 }
+
+// An object whose properties are few keeps them in one short list, and an empty one asks for no memory.
+const _: () = prove!(size_of::<Properties>() == 16);
 
 /// A property: its key and its value.
 #[derive(Drop)]
@@ -21,11 +26,12 @@ pub struct Property {
     pub value: Value,
 }
 
-// In a place of their own, so that items other than objects stay small.
+// The properties, by how many there are.
 #[derive(Drop)]
-struct PropertyMaps {
-    indices: BTreeMap<u32, Value>,
-    named: UnitsMap<Value>,
+enum Kept {
+    Empty,
+    Few(FewProperties),
+    Many(ManyProperties),
 }
 
 impl Model for Properties {
@@ -33,34 +39,33 @@ impl Model for Properties {
 
     ghost Value = { Keyed };
 
-    ghost view = { λ p. record { indices = p.maps.value.indices.entries; named = p.maps.value.named } };
+    ghost use Rattle.ob_items.specs.Kept.{properties_kept};
+
+    ghost view = { λ p. properties_kept p.kept };
 }
 
 impl Properties {
-    /// No property.
+    /// No property. It takes no memory.
     ///
     /// # Errors
-    /// `NoMemory` where an allocation is refused.
-    pub fn new(alloc: Global) -> Result<Properties, NoMemory>
+    /// None.
+    pub fn new(_alloc: Global) -> Result<Properties, NoMemory>
         ensures { IfOk result (λ p. p ≡ no_properties) }
     {
-        let maps = PropertyMaps {
-            indices: BTreeMap::new(alloc),
-            named: UnitsMap::new(alloc),
-        };
-        match Box::new(alloc, maps) {
-            Ok(maps) => Ok(Properties { maps }),
-            Err(_) => Err(NoMemory),
-        }
+        Ok(Properties { kept: Kept::Empty })
     }
 
     /// The value at a key; none where there is no such property.
     pub fn get(&self, key: &[u16]) -> Option<Value>
         ensures { result ≡ property self.now key.now }
     {
-        match index_of(key) {
-            Some(index) => self.maps.indices.get(&index).copied(),
-            None => self.maps.named.get(key),
+        match &self.kept {
+            Kept::Empty => None,
+            Kept::Few(few) => match index_of(key) {
+                Some(_) => None,
+                None => few.get(key),
+            },
+            Kept::Many(many) => many.get(key),
         }
     }
 
@@ -72,13 +77,19 @@ impl Properties {
         ensures ok { OnOk result (self.new ≡ with_property self.old key.now value) }
         ensures err { OnErr result (self.new ≡ self.old) }
     {
-        let maps = &mut *self.maps;
-        match index_of(key) {
-            Some(index) => match maps.indices.insert(index, value) {
-                Ok(_) => Ok(()),
-                Err(_) => Err(NoMemory),
+        match &mut self.kept {
+            Kept::Empty => {
+                self.kept = first_kept(alloc, key, value)?;
+                Ok(())
+            }
+            Kept::Few(few) => match set_few(alloc, few, key, value)? {
+                Some(many) => {
+                    self.kept = Kept::Many(many);
+                    Ok(())
+                }
+                None => Ok(()),
             },
-            None => maps.named.set(alloc, key, value),
+            Kept::Many(many) => many.set(alloc, key, value),
         }
     }
 
@@ -89,10 +100,11 @@ impl Properties {
     pub fn values(&self, alloc: Global) -> Result<List<Value>, NoMemory>
         ensures { IfOk result (λ values. values ≡ values_of self.now) }
     {
-        let maps = &*self.maps;
-        let mut values = index_values(alloc, &maps.indices)?;
-        maps.named.add_values(&mut values)?;
-        Ok(values)
+        match &self.kept {
+            Kept::Empty => Ok(List::new(alloc)),
+            Kept::Few(few) => few.values(alloc),
+            Kept::Many(many) => many.values(alloc),
+        }
     }
 
     /// The keys, in their order: array indices rising, then the others in order of creation.
@@ -102,17 +114,22 @@ impl Properties {
     pub fn keys(&self, alloc: Global) -> Result<List<Units>, NoMemory>
         ensures { IfOk result (λ keys. keys ≡ keys_of self.now) }
     {
-        let maps = &*self.maps;
-        let mut keys = index_keys(alloc, &maps.indices)?;
-        maps.named.add_keys(alloc, &mut keys)?;
-        Ok(keys)
+        match &self.kept {
+            Kept::Empty => Ok(List::new(alloc)),
+            Kept::Few(few) => few.keys(alloc),
+            Kept::Many(many) => many.keys(alloc),
+        }
     }
 
     /// Whether there is no property. It takes no memory.
     pub fn is_empty(&self) -> bool
         ensures { result ≡ (count self.now == 0) }
     {
-        self.maps.indices.is_empty() && self.maps.named.len() == 0
+        match &self.kept {
+            Kept::Empty => true,
+            Kept::Few(few) => few.len() == 0,
+            Kept::Many(many) => many.is_empty(),
+        }
     }
 
     /// The first n keys with their values, in the order of the keys; all where there are fewer.
@@ -122,11 +139,11 @@ impl Properties {
     pub fn first(&self, alloc: Global, n: usize) -> Result<List<Property>, NoMemory>
         ensures { IfOk result (λ entries. entries ≡ take n (entries_of self.now)) }
     {
-        let maps = &*self.maps;
-        let mut entries = index_entries(alloc, &maps.indices, n)?;
-        let left = n - entries.len();
-        add_named_entries(alloc, &maps.named, left, &mut entries)?;
-        Ok(entries)
+        match &self.kept {
+            Kept::Empty => Ok(List::new(alloc)),
+            Kept::Few(few) => few.first(alloc, n),
+            Kept::Many(many) => many.first(alloc, n),
+        }
     }
 
     /// The keys with their values, in the order of the keys.
@@ -136,68 +153,44 @@ impl Properties {
     pub fn entries(&self, alloc: Global) -> Result<List<Property>, NoMemory>
         ensures { IfOk result (λ entries. entries ≡ entries_of self.now) }
     {
-        let maps = &*self.maps;
-        let mut entries = index_entries(alloc, &maps.indices, maps.indices.len())?;
-        add_named_entries(alloc, &maps.named, maps.named.len(), &mut entries)?;
-        Ok(entries)
-    }
-}
-
-// The first n of them.
-fn index_entries(
-    alloc: Global,
-    indices: &BTreeMap<u32, Value>,
-    n: usize,
-) -> Result<List<Property>, NoMemory>
-    ensures value { IfOk result (λ entries. entries ≡ take n (map index_entry indices.now.entries)) }
-    ensures most { IfOk result (λ entries. length entries ≤ n) }
-{
-    let mut entries = List::new(alloc);
-    for (index, value) in indices {
-        if entries.len() == n {
-            return Ok(entries);
-        }
-        let key = decimal_units(alloc, u64::from(*index))?;
-        entries.push(Property { key, value: *value })?;
-    }
-    Ok(entries)
-}
-
-// Adds the first n of them.
-fn add_named_entries(
-    alloc: Global,
-    named: &UnitsMap<Value>,
-    n: usize,
-    entries: &mut List<Property>,
-) -> Result<(), NoMemory>
-    ensures { OnOk result (entries.new ≡ entries.old ++ map named_entry (take n named.now)) }
-{
-    for place in 0..named.len().min(n) {
-        if let Some((key, value)) = named.at(place) {
-            let key = Units::from_vec(Vec::from_slice(alloc, key)?);
-            entries.push(Property { key, value })?;
+        match &self.kept {
+            Kept::Empty => Ok(List::new(alloc)),
+            Kept::Few(few) => few.entries(alloc),
+            Kept::Many(many) => many.entries(alloc),
         }
     }
-    Ok(())
 }
 
-fn index_values(alloc: Global, indices: &BTreeMap<u32, Value>) -> Result<List<Value>, NoMemory>
-    ensures { IfOk result (λ values. values ≡ map (λ e. e.1) indices.now.entries) }
+// What an object with no property keeps once it has this one.
+fn first_kept(alloc: Global, key: &[u16], value: Value) -> Result<Kept, NoMemory>
+    ensures { IfOk result (λ kept. properties_kept kept ≡ with_property no_properties key.now value) }
 {
-    let mut values = List::new(alloc);
-    for value in indices.values() {
-        values.push(*value)?;
+    match index_of(key) {
+        None => Ok(Kept::Few(FewProperties::new(alloc, key, value)?)),
+        Some(_) => {
+            let mut many = ManyProperties::new(alloc, UnitsMap::new(alloc))?;
+            many.set(alloc, key, value)?;
+            Ok(Kept::Many(many))
+        }
     }
-    Ok(values)
 }
 
-#[tactic(auto, using(crate::proofs::UnitsMapLemmas::decimal_keys))]
-fn index_keys(alloc: Global, indices: &BTreeMap<u32, Value>) -> Result<List<Units>, NoMemory>
-    ensures { IfOk result (λ keys. keys ≡ map (λ e. decimal e.0) indices.now.entries) }
+// Writes the value at a key, in place where the properties stay few. Where they don't, they are as
+// before, and it answers all of them, with this one.
+fn set_few(
+    alloc: Global,
+    few: &mut FewProperties,
+    key: &[u16],
+    value: Value,
+) -> Result<Option<ManyProperties>, NoMemory>
+    ensures ok { IfOk result (λ many. unwrap_or many (only_named few.new) ≡ with_property (only_named few.old) key.now value) }
+    ensures err { OnErr result (few.new ≡ few.old) }
 {
-    let mut keys = List::new(alloc);
-    for index in indices.keys() {
-        keys.push(decimal_units(alloc, u64::from(*index))?)?;
+    if index_of(key).is_none() && (few.len() < MAX_FEW || few.get(key).is_some()) {
+        few.set(alloc, key, value)?;
+        return Ok(None);
     }
-    Ok(keys)
+    let mut many = ManyProperties::new(alloc, few.table(alloc)?)?;
+    many.set(alloc, key, value)?;
+    Ok(Some(many))
 }

@@ -2,7 +2,8 @@ use crate::{
     CodeKey, ErrorKind, Properties, Ref, RegionKey, SharedFunction, SharedFunctions, Thrown, Value,
     decimal_units, index_of, integer_units,
 };
-use ob_base::Units;
+use ob_base::{NoMemory, Units};
+use std::alloc::Global;
 use std::rc::Rc;
 use std::test::Fail;
 
@@ -32,18 +33,64 @@ fn index_texts_are_told(rt: HostRuntime) -> Result<(), Fail> {
     Ok(())
 }
 
+// The properties whose keys are the letters of `keys`, written in turn with the letters of `values`.
+fn written(alloc: Global, keys: &str, values: &str) -> Result<Properties, NoMemory> {
+    let mut properties = Properties::new(alloc)?;
+    for (key, value) in keys.bytes().zip(values.bytes()) {
+        let key = [u16::from(key)];
+        properties.set(alloc, key.as_slice(), Value::Int(i64::from(value)))?;
+    }
+    Ok(properties)
+}
+
 #[test]
 fn properties_keep_their_places(rt: HostRuntime) -> Result<(), Fail> {
     let alloc = rt.alloc();
-    let mut properties = Properties::new(alloc)?;
-    for (key, value) in [([98u16], 1), ([49], 2), ([97], 3), ([98], 4)] {
-        properties.set(alloc, key.as_slice(), Value::Int(value))?;
+    for (keys, values, keys_kept, values_kept) in [
+        // by how many there are
+        ("", "", "", ""),
+        ("a", "1", "a", "1"),
+        ("abcdefgh", "12345678", "abcdefgh", "12345678"),
+        ("abcdefghi", "123456789", "abcdefghi", "123456789"),
+        (
+            "tsrqponmlkjihgfedcba",
+            "ABCDEFGHIJKLMNOPQRST",
+            "tsrqponmlkjihgfedcba",
+            "ABCDEFGHIJKLMNOPQRST",
+        ),
+        // with an array index first, in the middle and last
+        ("7", "1", "7", "1"),
+        ("7ba", "123", "7ba", "123"),
+        ("b7a", "123", "7ba", "213"),
+        ("ba7", "123", "7ba", "312"),
+        ("b9a0", "1234", "09ba", "4213"),
+        ("hgfedcba7", "123456789", "7hgfedcba", "912345678"),
+        ("hgfedcba7i", "123456789A", "7hgfedcbai", "912345678A"),
+        // with a key that is written again
+        ("aa", "12", "a", "2"),
+        ("baab", "1234", "ba", "43"),
+        ("abcdefghh", "123456789", "abcdefgh", "12345679"),
+        ("abcdefgha", "123456789", "abcdefgh", "92345678"),
+        ("abcdefghid", "123456789A", "abcdefghi", "123A56789"),
+        ("b7a7b", "12345", "7ba", "453"),
+    ] {
+        let properties = written(alloc, keys, values)?;
+        let entries = properties.entries(alloc)?;
+        assert_eq!(rt; entries.len(), keys_kept.len());
+        let kept = keys_kept.bytes().zip(values_kept.bytes());
+        for (entry, (key, value)) in entries.as_slice().iter().zip(kept) {
+            let key = [u16::from(key)];
+            let value = Value::Int(i64::from(value));
+            assert!(rt; entry.key.as_slice() == key.as_slice());
+            assert!(rt; entry.value == value);
+            assert!(rt; properties.get(key.as_slice()) == Some(value));
+        }
+        assert_eq!(rt; properties.is_empty(), keys.is_empty());
+        assert!(rt; properties.get([33u16].as_slice()).is_none());
+        assert_eq!(rt; properties.first(alloc, 1)?.len(), keys_kept.len().min(1));
+        assert_eq!(rt; properties.keys(alloc)?.len(), keys_kept.len());
+        assert_eq!(rt; properties.values(alloc)?.len(), keys_kept.len());
     }
-    let values = properties.values(alloc)?;
-    let expected = [Value::Int(2), Value::Int(4), Value::Int(3)];
-    assert!(rt; values.as_slice() == expected.as_slice());
-    assert_eq!(rt; properties.keys(alloc)?.len(), 3);
-    assert!(rt; properties.get([98u16].as_slice()) == Some(Value::Int(4)));
     Ok(())
 }
 

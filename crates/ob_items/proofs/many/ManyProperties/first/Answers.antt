@@ -1,7 +1,7 @@
 use Rattle.std.proofs.Common.{◌∙◌, ap, arith, take}
 use Rattle.ob_items.specs.Properties.{entries_of, named_entry}
 use Rattle.ob_items.proofs.ListLemmas.{first_both}
-use Rattle.ob_items.proofs.properties.Properties.first.Goals as goal
+use Rattle.ob_items.proofs.many.ManyProperties.first.Goals as goal
 
 pub returns : goal.returns
 returns c =

@@ -1,6 +1,6 @@
 use Rattle.std.proofs.Common.{◌≡◌, ◌≤◌, ◌++◌, length, map}
 use Rattle.ob_items.specs.Properties.{index_entry}
-use Rattle.ob_items.proofs.properties.index_entries.Given as goal
+use Rattle.ob_items.proofs.many.index_entries.Given as goal
 
 abbrev pub invariant-loop-index : goal.invariant-loop-index
 invariant-loop-index l = record {

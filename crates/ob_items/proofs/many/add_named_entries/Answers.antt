@@ -1,8 +1,8 @@
 use Rattle.std.proofs.Common.{◌++◌, ◌∷◌, [], ◌∙◌, ap, sym, append_assoc, arith, map, take}
 use Rattle.ob_items.specs.Properties.{named_entry}
 use Rattle.ob_items.proofs.ListLemmas.{map_take_more, length-le-none}
-use Rattle.ob_items.proofs.properties.add_named_entries.Goals as goal
-use Rattle.ob_items.proofs.properties.add_named_entries.Goals.{in-Some+in_ok-from_slice+in_ok-push, in_default}
+use Rattle.ob_items.proofs.many.add_named_entries.Goals as goal
+use Rattle.ob_items.proofs.many.add_named_entries.Goals.{in-Some+in_ok-from_slice+in_ok-push, in_default}
 
 pub loop-place-preserved : goal.loop-place-preserved
 loop-place-preserved c =
