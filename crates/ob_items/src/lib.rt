@@ -9,6 +9,7 @@ mod frame;
 mod index_text;
 mod item;
 mod many;
+mod names;
 mod properties;
 mod region;
 mod thrown;
@@ -21,6 +22,7 @@ pub use error::{AllocError, Failure, HookError, OpError, PlainError, SetError, T
 pub use frame::{Catch, Frame, Taken};
 pub use index_text::{decimal_units, index_of, integer_units};
 pub use item::{Body, Closure, Item, Suspended};
+pub use names::{Name, Names};
 pub use properties::{Properties, Property};
 pub use region::Region;
 pub use sqlite_items::Boxed;

@@ -4,7 +4,9 @@ ghost use Rattle.ob_items.specs.Bodies.{text_of, array_of, properties_of, box_of
 ghost use Rattle.ob_items.specs.Properties.{with_property};
 ghost use Rattle.ob_items.specs.Items.{at_item, is_frozen_at, fault_of, count_at, is_new_at, element_fault, with_element, property_fault, frozen_fault, hook_fault, hooks_at};
 
-use crate::{Body, Frame, HookError, Item, SetError, Taken, UnitsMap, Value, writes};
+use crate::{
+    Body, Frame, HookError, Item, Names, Properties, SetError, Taken, UnitsMap, Value, writes,
+};
 use ob_base::{MAX_REGION_ELEMENTS, NoMemory, Units};
 use std::alloc::Global;
 use std::marker::Model;
@@ -15,6 +17,7 @@ pub struct Region {
     items: Vec<Item>,
     elements: u32,
     literals: UnitsMap<usize>,
+    names: Names,
 }
 
 impl Model for Region {
@@ -38,6 +41,7 @@ impl Region {
             items: Vec::new(alloc),
             elements: 0,
             literals: UnitsMap::new(alloc),
+            names: Names::new(alloc),
         }
     }
 
@@ -126,10 +130,37 @@ impl Region {
         ensures ok { OnOk result (self.new ≡ rewritten properties_of (λ ps. Body.Object (with_property ps key.now value)) self.old at (is_new_at self.old.items at key.now)) }
         ensures err { OnErr result (self.new ≡ self.old) }
     {
-        if writes::set_property(alloc, &mut self.items, at, key, self.elements, value)? {
+        let grows = writes::set_property(
+            alloc,
+            &mut self.items,
+            &mut self.names,
+            at,
+            key,
+            self.elements,
+            value,
+        )?;
+        if grows {
             self.elements += 1;
         }
         Ok(())
+    }
+
+    /// Writes a property of an object that is no item yet, with its name from those of the region.
+    ///
+    /// # Errors
+    /// `NoMemory` where an allocation is refused; the properties are then as before.
+    pub fn set_property_of(
+        &mut self,
+        alloc: Global,
+        properties: &mut Properties,
+        key: &[u16],
+        value: Value,
+    ) -> Result<(), NoMemory>
+        ensures same { self.new ≡ self.old }
+        ensures ok { OnOk result (properties.new ≡ with_property properties.old key.now value) }
+        ensures err { OnErr result (properties.new ≡ properties.old) }
+    {
+        properties.set(alloc, &mut self.names, key, value)
     }
 
     /// Gives a box a value.

@@ -7,7 +7,7 @@ ghost use Rattle.ob_items.specs.Bodies.{array_of, properties_of, box_of, hooks_o
 ghost use Rattle.ob_items.specs.Properties.{with_property};
 ghost use Rattle.ob_items.specs.Items.{at_item, live, is_frozen_at, changed, marked_at, fault_of, count_at, is_new_at, element_fault, with_element, property_fault, frozen_fault, hook_fault, hooks_at};
 
-use crate::{Body, Frame, HookError, Item, SetError, Taken, UnitsMap, Value};
+use crate::{Body, Frame, HookError, Item, Names, SetError, Taken, UnitsMap, Value};
 use ob_base::{List, MAX_HOOKS, MAX_REGION_ELEMENTS, NoMemory, Units};
 use std::alloc::Global;
 use std::mem;
@@ -58,6 +58,7 @@ pub(crate) fn set_element(
 pub(crate) fn set_property(
     alloc: Global,
     items: &mut Vec<Item>,
+    names: &mut Names,
     at: usize,
     key: &[u16],
     elements: u32,
@@ -80,7 +81,7 @@ pub(crate) fn set_property(
             if is_new && u64::from(elements) + 1 > MAX_REGION_ELEMENTS {
                 return Err(SetError::HeapFull);
             }
-            match properties.set(alloc, key, value) {
+            match properties.set(alloc, names, key, value) {
                 Ok(()) => Ok(is_new),
                 Err(_) => Err(SetError::NoMemory),
             }
