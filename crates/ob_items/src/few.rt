@@ -7,7 +7,7 @@ ghost use Rattle.indexmap.specs.IndexMap.{insert_entry};
 ghost use Rattle.ob_items.specs.Properties.{named_entry};
 ghost use Rattle.ob_items.specs.Distinct.{AreDistinct};
 
-use crate::{Property, UnitsMap, Value};
+use crate::{Name, Names, Property, UnitsMap, Value};
 use ob_base::{List, NoMemory, Units};
 use std::alloc::Global;
 use std::marker::Model;
@@ -22,12 +22,15 @@ pub(crate) struct FewProperties {
     entries: Box<Vec<Named>>,
 }
 
-/// A property whose key is no array index.
+// A property whose key is no array index.
 #[derive(Drop)]
 struct Named {
-    key: Units,
+    key: Name,
     value: Value,
 }
+
+// So a short list keeps each of its properties in 32 bytes.
+const _: () = prove!(size_of::<Named>() == 32);
 
 impl Model for FewProperties {
     ghost use Rattle.std.specs.Prelude.{List, ℕ};
@@ -51,11 +54,10 @@ impl Model for Named {
 }
 
 impl Named {
-    fn new(alloc: Global, key: &[u16], value: Value) -> Result<Named, NoMemory>
-        ensures { IfOk result (λ named. named ≡ (key.now, value)) }
+    fn new(key: Name, value: Value) -> Named
+        ensures { result ≡ (key, value) }
     {
-        let key = Units::from_vec(Vec::from_slice(alloc, key)?);
-        Ok(Named { key, value })
+        Named { key, value }
     }
 
     fn key(&self) -> &[u16]
@@ -82,11 +84,11 @@ impl FewProperties {
     ///
     /// # Errors
     /// `NoMemory` where an allocation is refused.
-    pub(crate) fn new(alloc: Global, key: &[u16], value: Value) -> Result<FewProperties, NoMemory>
-        ensures { IfOk result (λ few. few ≡ (key.now, value) ∷ []) }
+    pub(crate) fn new(alloc: Global, key: Name, value: Value) -> Result<FewProperties, NoMemory>
+        ensures { IfOk result (λ few. few ≡ (key, value) ∷ []) }
     {
         let mut entries = Vec::new(alloc);
-        push_exact(&mut entries, Named::new(alloc, key, value)?)?;
+        push_exact(&mut entries, Named::new(key, value))?;
         match Box::new(alloc, entries) {
             Ok(entries) => Ok(FewProperties { entries }),
             Err(_) => Err(NoMemory),
@@ -107,15 +109,22 @@ impl FewProperties {
         find(self.entries.as_slice(), key)
     }
 
-    /// Writes the value at a key. A key that is there keeps its place, and a new one goes last.
+    /// Writes the value at a key. A key that is there keeps its place, and a new one goes last, with its
+    /// name from these.
     ///
     /// # Errors
     /// `NoMemory` where an allocation is refused; the properties are then as before.
-    pub(crate) fn set(&mut self, alloc: Global, key: &[u16], value: Value) -> Result<(), NoMemory>
+    pub(crate) fn set(
+        &mut self,
+        alloc: Global,
+        names: &mut Names,
+        key: &[u16],
+        value: Value,
+    ) -> Result<(), NoMemory>
         ensures ok { OnOk result (self.new ≡ insert_entry (pointwise nat_eq) self.old key.now value) }
         ensures err { OnErr result (self.new ≡ self.old) }
     {
-        set_entry(alloc, &mut *self.entries, key, value)
+        set_entry(alloc, names, &mut *self.entries, key, value)
     }
 
     /// The values, in their order.
@@ -182,6 +191,7 @@ fn find(entries: &[Named], key: &[u16]) -> Option<Value>
 
 fn set_entry(
     alloc: Global,
+    names: &mut Names,
     entries: &mut Vec<Named>,
     key: &[u16],
     value: Value,
@@ -192,7 +202,7 @@ fn set_entry(
     if write_entry(entries, key, value) {
         return Ok(());
     }
-    push_exact(entries, Named::new(alloc, key, value)?)
+    push_exact(entries, Named::new(names.share(alloc, key)?, value))
 }
 
 // Writes the value at a key that is there. It answers whether it is.

@@ -5,7 +5,7 @@ ghost use Rattle.ob_items.specs.Kept.{properties_kept};
 use crate::few::{FewProperties, MAX_FEW};
 use crate::index_text::index_of;
 use crate::many::ManyProperties;
-use crate::{UnitsMap, Value};
+use crate::{Names, UnitsMap, Value};
 use ob_base::{List, NoMemory, Units};
 use std::alloc::Global;
 use std::marker::Model;
@@ -69,20 +69,27 @@ impl Properties {
         }
     }
 
-    /// Writes the value at a key. A key that is there keeps its place.
+    /// Writes the value at a key. A key that is there keeps its place. While the properties are few, the
+    /// name of a new one is taken from these names.
     ///
     /// # Errors
     /// `NoMemory` where an allocation is refused; the properties are then as before.
-    pub fn set(&mut self, alloc: Global, key: &[u16], value: Value) -> Result<(), NoMemory>
+    pub fn set(
+        &mut self,
+        alloc: Global,
+        names: &mut Names,
+        key: &[u16],
+        value: Value,
+    ) -> Result<(), NoMemory>
         ensures ok { OnOk result (self.new ≡ with_property self.old key.now value) }
         ensures err { OnErr result (self.new ≡ self.old) }
     {
         match &mut self.kept {
             Kept::Empty => {
-                self.kept = first_kept(alloc, key, value)?;
+                self.kept = first_kept(alloc, names, key, value)?;
                 Ok(())
             }
-            Kept::Few(few) => match set_few(alloc, few, key, value)? {
+            Kept::Few(few) => match set_few(alloc, names, few, key, value)? {
                 Some(many) => {
                     self.kept = Kept::Many(many);
                     Ok(())
@@ -162,11 +169,14 @@ impl Properties {
 }
 
 // What an object with no property keeps once it has this one.
-fn first_kept(alloc: Global, key: &[u16], value: Value) -> Result<Kept, NoMemory>
+fn first_kept(alloc: Global, names: &mut Names, key: &[u16], value: Value) -> Result<Kept, NoMemory>
     ensures { IfOk result (λ kept. properties_kept kept ≡ with_property no_properties key.now value) }
 {
     match index_of(key) {
-        None => Ok(Kept::Few(FewProperties::new(alloc, key, value)?)),
+        None => {
+            let name = names.share(alloc, key)?;
+            Ok(Kept::Few(FewProperties::new(alloc, name, value)?))
+        }
         Some(_) => {
             let mut many = ManyProperties::new(alloc, UnitsMap::new(alloc))?;
             many.set(alloc, key, value)?;
@@ -179,6 +189,7 @@ fn first_kept(alloc: Global, key: &[u16], value: Value) -> Result<Kept, NoMemory
 // before, and it answers all of them, with this one.
 fn set_few(
     alloc: Global,
+    names: &mut Names,
     few: &mut FewProperties,
     key: &[u16],
     value: Value,
@@ -187,7 +198,7 @@ fn set_few(
     ensures err { OnErr result (few.new ≡ few.old) }
 {
     if index_of(key).is_none() && (few.len() < MAX_FEW || few.get(key).is_some()) {
-        few.set(alloc, key, value)?;
+        few.set(alloc, names, key, value)?;
         return Ok(None);
     }
     let mut many = ManyProperties::new(alloc, few.table(alloc)?)?;

@@ -6,7 +6,8 @@ ghost use Rattle.ob_items.specs.Items.{at_item, is_frozen_at, live, fault_of, co
 
 use crate::columns::ItemColumns;
 use crate::{
-    Body, Frame, HookError, SetError, SharedFunction, SharedFunctions, Taken, UnitsMap, Value,
+    Body, Frame, HookError, Names, Properties, SetError, SharedFunction, SharedFunctions, Taken,
+    UnitsMap, Value,
 };
 use ob_base::{MAX_REGION_ELEMENTS, NoMemory, Units};
 use std::alloc::Global;
@@ -20,6 +21,7 @@ pub struct Region {
     elements: u32,
     literals: UnitsMap<usize>,
     functions: SharedFunctions,
+    names: Names,
 }
 
 impl Model for Region {
@@ -44,6 +46,7 @@ impl Region {
             elements: 0,
             literals: UnitsMap::new(alloc),
             functions: SharedFunctions::new(alloc),
+            names: Names::new(alloc),
         }
     }
 
@@ -131,13 +134,31 @@ impl Region {
         ensures ok { OnOk result (self.new ≡ rewritten properties_of (λ ps. Body.Object (with_property ps key.now value)) self.old at (is_new_at self.old.items at key.now)) }
         ensures err { OnErr result (self.new ≡ self.old) }
     {
-        if self
+        let grows = self
             .items
-            .set_property(alloc, at, key, self.elements, value)?
-        {
+            .set_property(alloc, &mut self.names, at, key, self.elements, value)?;
+        if grows {
             self.elements += 1;
         }
         Ok(())
+    }
+
+    /// Writes a property of an object that is no item yet, with its name from those of the region.
+    ///
+    /// # Errors
+    /// `NoMemory` where an allocation is refused; the properties are then as before.
+    pub fn set_property_of(
+        &mut self,
+        alloc: Global,
+        properties: &mut Properties,
+        key: &[u16],
+        value: Value,
+    ) -> Result<(), NoMemory>
+        ensures same { self.new ≡ self.old }
+        ensures ok { OnOk result (properties.new ≡ with_property properties.old key.now value) }
+        ensures err { OnErr result (properties.new ≡ properties.old) }
+    {
+        properties.set(alloc, &mut self.names, key, value)
     }
 
     /// Gives a box a value.

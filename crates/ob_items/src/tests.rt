@@ -1,6 +1,6 @@
 use crate::{
-    CodeKey, ErrorKind, Properties, Ref, RegionKey, SharedFunction, SharedFunctions, Thrown, Value,
-    decimal_units, index_of, integer_units,
+    CodeKey, ErrorKind, Names, Properties, Ref, RegionKey, SharedFunction, SharedFunctions, Thrown,
+    Value, decimal_units, index_of, integer_units,
 };
 use ob_base::{NoMemory, Units};
 use std::alloc::Global;
@@ -35,10 +35,16 @@ fn index_texts_are_told(rt: HostRuntime) -> Result<(), Fail> {
 
 // The properties whose keys are the letters of `keys`, written in turn with the letters of `values`.
 fn written(alloc: Global, keys: &str, values: &str) -> Result<Properties, NoMemory> {
+    let mut names = Names::new(alloc);
     let mut properties = Properties::new(alloc)?;
     for (key, value) in keys.bytes().zip(values.bytes()) {
         let key = [u16::from(key)];
-        properties.set(alloc, key.as_slice(), Value::Int(i64::from(value)))?;
+        properties.set(
+            alloc,
+            &mut names,
+            key.as_slice(),
+            Value::Int(i64::from(value)),
+        )?;
     }
     Ok(properties)
 }

@@ -6,7 +6,7 @@ ghost use Rattle.ob_items.specs.Properties.{property, with_property};
 ghost use Rattle.ob_items.specs.Columns.{read_at, remade};
 ghost use Rattle.ob_items.specs.Items.{fault_of, element_fault, with_element, property_fault, frozen_fault, hook_fault};
 
-use crate::{Body, Frame, HookError, SetError, Taken, Value};
+use crate::{Body, Frame, HookError, Names, SetError, Taken, Value};
 use ob_base::{List, MAX_HOOKS, MAX_REGION_ELEMENTS};
 use std::alloc::Global;
 use std::mem;
@@ -58,6 +58,7 @@ pub(crate) fn set_element(
 pub(crate) fn set_property(
     alloc: Global,
     bodies: &mut Vec<Body>,
+    names: &mut Names,
     at: usize,
     frozen: bool,
     key: &[u16],
@@ -81,7 +82,7 @@ pub(crate) fn set_property(
             if is_new && u64::from(elements) + 1 > MAX_REGION_ELEMENTS {
                 return Err(SetError::HeapFull);
             }
-            match properties.set(alloc, key, value) {
+            match properties.set(alloc, names, key, value) {
                 Ok(()) => Ok(is_new),
                 Err(_) => Err(SetError::NoMemory),
             }

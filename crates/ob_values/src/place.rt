@@ -156,11 +156,10 @@ fn place_props(
     ensures sound { IfOk result (λ properties. AddsValues regions.old regions.new (values_of properties)) }
     ensures fixed { OnOk result (KeepsFixed regions.old regions.new) }
 {
-    let alloc = regions.alloc();
-    let mut properties = Properties::new(alloc)?;
+    let mut properties = Properties::new(regions.alloc())?;
     for prop in props {
         let value = place(regions, region, &prop.value)?;
-        properties.set(alloc, prop.key.as_slice(), value)?;
+        regions.set_property_of(region, &mut properties, prop.key.as_slice(), value)?;
     }
     Ok(properties)
 }

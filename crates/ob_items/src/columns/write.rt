@@ -6,7 +6,7 @@ ghost use Rattle.ob_items.specs.Properties.{with_property};
 ghost use Rattle.ob_items.specs.Items.{at_item, is_frozen_at, changed, fault_of, count_at, is_new_at, element_fault, with_element, property_fault, frozen_fault, hook_fault, hooks_at};
 
 use crate::columns::ItemColumns;
-use crate::{Body, Frame, HookError, SetError, Taken, Value, writes};
+use crate::{Body, Frame, HookError, Names, SetError, Taken, Value, writes};
 use std::alloc::Global;
 
 impl ItemColumns {
@@ -34,6 +34,7 @@ impl ItemColumns {
     pub(crate) fn set_property(
         &mut self,
         alloc: Global,
+        names: &mut Names,
         at: usize,
         key: &[u16],
         elements: u32,
@@ -47,7 +48,16 @@ impl ItemColumns {
         ensures err { OnErr result (self.new ≡ self.old) }
     {
         let frozen = self.is_frozen(at);
-        writes::set_property(alloc, &mut self.bodies, at, frozen, key, elements, value)
+        writes::set_property(
+            alloc,
+            &mut self.bodies,
+            names,
+            at,
+            frozen,
+            key,
+            elements,
+            value,
+        )
     }
 
     // Gives a box a value.

@@ -2,7 +2,7 @@
 ghost use Rattle.std.specs.Prelude.{[], ◌≡◌, ◌≢◌, ◌+◌, ◌<◌, ◌≤◌, ◌↔◌, length, IsSome, OnOk, OnErr, IfOk, Some, nat_lt};
 ghost use Rattle.ob_items.specs.Bodies.{text_of};
 ghost use Rattle.ob_items.specs.Items.{live};
-ghost use Rattle.ob_items.specs.Properties.{no_properties};
+ghost use Rattle.ob_items.specs.Properties.{no_properties, with_property};
 ghost use Rattle.ob_values.specs.Fixed.{KeepsFixed};
 ghost use Rattle.ob_values.specs.Sound.{AddsItem, KeepsSound};
 ghost use Rattle.ob_values.specs.Store.{IsOpen, read_item, elements_in, with_new, next_ref, text_cost, literal_ref, with_literal_in};
@@ -58,6 +58,25 @@ impl Regions {
                 Ok(item) => Ok(Ref { region, item }),
                 Err(_) => Err(AllocError::NoMemory),
             },
+            None => unreachable!(),
+        }
+    }
+
+    // Writes a property of an object that is no item yet, with its name from those of the region.
+    pub(crate) fn set_property_of(
+        &mut self,
+        region: RegionKey,
+        properties: &mut Properties,
+        key: &[u16],
+        value: Value,
+    ) -> Result<(), NoMemory>
+        requires { IsOpen self.old region }
+        ensures same { self.new ≡ self.old }
+        ensures ok { OnOk result (properties.new ≡ with_property properties.old key.now value) }
+        ensures err { OnErr result (properties.new ≡ properties.old) }
+    {
+        match self.slots.get_mut(region.0) {
+            Some(cells) => cells.set_property_of(self.alloc, properties, key, value),
             None => unreachable!(),
         }
     }

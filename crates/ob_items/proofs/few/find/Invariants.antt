@@ -4,4 +4,5 @@ use Rattle.std.specs.Map.{lookup}
 use Rattle.ob_items.proofs.few.find.Given as goal
 
 abbrev pub invariant-loop-named : goal.invariant-loop-named
-invariant-loop-named l = lookup (pointwise nat_eq l.key) (drop l.named-index l.entries) ≡ lookup (pointwise nat_eq l.key) l.entries
+invariant-loop-named l =
+    lookup (pointwise nat_eq l.key) (drop l.named-index l.entries) ≡ lookup (pointwise nat_eq l.key) l.entries

@@ -5,4 +5,6 @@ use Rattle.ob_items.proofs.FewLemmas.{insert_all-distinct}
 use Rattle.ob_items.proofs.few.table_of.Goals as goal
 
 pub loop-named-init : goal.loop-named-init
-loop-named-init c = ap (λ t. insert_all (pointwise nat_eq) t c.args.entries.now) c.new-table.ensures ∙ insert_all-distinct c.args.entries.now c.requires
+loop-named-init c =
+    ap (λ t. insert_all (pointwise nat_eq) t c.args.entries.now) c.new-table.ensures
+    ∙ insert_all-distinct c.args.entries.now c.requires

@@ -6,5 +6,6 @@ use Rattle.ob_items.proofs.few.write_entry.Given as goal
 abbrev pub invariant-loop-at : goal.invariant-loop-at
 invariant-loop-at l = record {
   same : l.entries.items ≡ l.fn.entries.items;
-  written : insert_entry (pointwise nat_eq) l.entries.items l.key l.value ≡ take l.at l.entries.items ++ insert_entry (pointwise nat_eq) (drop l.at l.entries.items) l.key l.value;
+  written : insert_entry (pointwise nat_eq) l.entries.items l.key l.value
+      ≡ take l.at l.entries.items ++ insert_entry (pointwise nat_eq) (drop l.at l.entries.items) l.key l.value;
 }

@@ -3,7 +3,9 @@ use Rattle.ob_base.specs.PlainData.{elements, prop_elements}
 use Rattle.ob_items.specs.Properties.{values_of, with_property}
 use Rattle.ob_items.specs.declared.item.Body.TheVariants as B
 use Rattle.ob_values.specs.Placed.{PlacedItems, PlacedProps, placed, placed_prop, add_item, add_prop}
+use Rattle.ob_values.specs.Fixed.{KeepsFixed}
 use Rattle.ob_values.specs.Sound.{AddsValues}
+use Rattle.ob_values.specs.Store.{IsOpen, elements_in}
 use Rattle.ob_values.proofs.FixedLemmas.{KeepsFixed-then, KeepsFixed-after}
 use Rattle.ob_values.proofs.PlacedLemmas.{AddsValues-made, AddsValues-push, AddsValues-property, item-more, prop-more, sum-next, placed_prop-is, prop_elements-is}
 use Rattle.ob_values.proofs.place.+place.Goals as goal
@@ -45,18 +47,20 @@ place_props-loop-prop-preserved t c =
     let prop = c.prop-item.result in
     let within : i < length props = omega arith in
     let before : PlacedProps = record { properties = c.loop-prop.properties; store = c.loop-prop.regions } in
-    let after : PlacedProps = record { properties = c.set.new.self; store = c.place.new.regions } in
-    let properties = c.in_ok-set.ensures.ok ∙ (λ k. with_property c.loop-prop.properties (c.as_slice.ensures k) (c.in_ok-value.ensures.value k)) in
-    let made : after ≡ add_prop before (prop.key, placed c.args.region prop.value) = λ k. record { properties = properties k; store = c.in_ok-value.ensures.store k } in
+    let after : PlacedProps = record { properties = c.set_property_of.new.properties; store = c.set_property_of.new.self } in
+    let same = c.in_ok-set_property_of.ensures.same in
+    let properties = c.in_ok-set_property_of.ensures.ok ∙ (λ k. with_property c.loop-prop.properties (c.as_slice.ensures k) (c.in_ok-value.ensures.value k)) in
+    let made : after ≡ add_prop before (prop.key, placed c.args.region prop.value) = λ k. record { properties = properties k; store = (same ∙ c.in_ok-value.ensures.store) k } in
     let step = made ∙ ap (add_prop before) (sym (placed_prop-is c.args.region prop)) in
     let cost : elements prop.value ≡ prop_elements (get_or props i prop) = sym (prop_elements-is prop) ∙ ap prop_elements c.prop-item.is in
     record {
       placed = prop-more c.args.region props i prop before after within (step ∙ ap (λ x. add_prop before (placed_prop c.args.region x)) c.prop-item.is) ∙ c.loop-prop.invariant.placed;
-      opened = c.in_ok-value.ensures.open;
-      elements = omega (arith, c.loop-prop.invariant.elements, c.in_ok-value.ensures.elements, sum-next prop_elements props i prop within, cost);
-      sound = subst (λ ps. AddsValues c.args.regions.now c.place.new.regions (values_of ps)) (sym (c.in_ok-set.ensures.ok ∙ ap (λ k. with_property c.loop-prop.properties k c.in_ok-value.value) c.as_slice.ensures))
+      opened = subst (λ s. IsOpen s c.args.region) (sym same) c.in_ok-value.ensures.open;
+      elements = omega (arith, c.loop-prop.invariant.elements, c.in_ok-value.ensures.elements, ap (λ s. elements_in s c.args.region) same, sum-next prop_elements props i prop within, cost);
+      sound = subst (λ (p : PlacedProps). AddsValues c.args.regions.now p.store (values_of p.properties))
+          (λ k. record { properties = sym (c.in_ok-set_property_of.ensures.ok ∙ ap (λ k. with_property c.loop-prop.properties k c.in_ok-value.value) c.as_slice.ensures) k; store = sym same k })
           (AddsValues-property c.args.regions.now c.loop-prop.regions c.place.new.regions c.loop-prop.properties prop.key c.in_ok-value.value c.loop-prop.invariant.sound c.in_ok-value.ensures.sound);
-      fixed = KeepsFixed-then c.args.regions.now c.loop-prop.regions c.place.new.regions c.loop-prop.invariant.fixed c.in_ok-value.ensures.fixed;
+      fixed = subst (KeepsFixed c.args.regions.now) (sym same) (KeepsFixed-then c.args.regions.now c.loop-prop.regions c.place.new.regions c.loop-prop.invariant.fixed c.in_ok-value.ensures.fixed);
     }
 
 pub place_array-returns-clause-fixed : goal.place_array-returns-clause-fixed
