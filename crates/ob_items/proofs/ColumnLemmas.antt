@@ -1,8 +1,7 @@
 -- Items that are kept as a column of marks and a column of bodies.
-use Rattle.std.proofs.Common.{◌≡◌, ℕ, zero, suc, Bool, true, false, Some, None, Option, List, [], ◌∷◌, ◌++◌, refl, ap, sym, ◌∙◌, length, slice_get, slice_set, unwrap_or, ◌≤◌, subst, arith, Result, Ok, Err, OnOk, OnErr}
+use Rattle.std.proofs.Common.{◌≡◌, ℕ, zero, suc, Bool, true, false, Some, None, Option, List, [], ◌∷◌, ◌++◌, refl, ap, sym, ◌∙◌, length, slice_get, slice_set, unwrap_or, ◌≤◌, arith, Result, Ok, Err, OnOk, OnErr}
 use Rattle.std.proofs.lemmas.Grind.{common_steps}
 use Rattle.std.specs.Option.{option_map_or}
-use Rattle.ob_items.specs.Bodies.{array_of}
 use Rattle.ob_items.specs.Columns.{items_of, read_at, remade}
 use Rattle.ob_items.specs.Item.{Item}
 use Rattle.ob_items.specs.Items.{at_item, is_frozen_at, with_body, changed, marked_at, live}

@@ -12,8 +12,7 @@ use ob_base::{List, NoMemory, Units};
 use std::alloc::Global;
 use std::marker::Model;
 
-/// As many properties as are searched one after the other: a search of eight keys costs less than the
-/// hash of one.
+/// As many properties as are looked for one after the other. For more there is a table.
 pub(crate) const MAX_FEW: usize = 8;
 
 /// Properties in order of creation, which a contract sees as the list of their keys and values.

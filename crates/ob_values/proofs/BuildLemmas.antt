@@ -3,7 +3,6 @@ use Rattle.std.proofs.Common.{◌≡◌, ℕ, zero, suc, ◌+◌, ◌-◌, ◌<�
 use Rattle.std.proofs.lemmas.List.{append-nil, drop_all}
 use Rattle.std.proofs.Math.Seq.{drop-cons}
 use Rattle.std.specs.Option.{option_map, option_and_then}
-use Rattle.ob_base.specs.declared.plain.Plain.{Plain}
 use Rattle.ob_items.specs.declared.item.Body.{Body}
 use Rattle.ob_values.specs.Store.{Store}
 use Rattle.ob_values.specs.PlainOf.{all_some, plain_leaf, plain_body, plain_value, plain_from, plain_at}

@@ -1,5 +1,5 @@
 -- What a call answers, where it was tested before whether it may be carried out.
-use Rattle.std.proofs.Common.{◌≡◌, ◌⊎◌, ◌∙◌, ℕ, ◌+◌, Bool, true, false, refl, ap, sym, inl, inr, Result, Ok, Err, nat_lt, subst}
+use Rattle.std.proofs.Common.{◌≡◌, ◌∙◌, ℕ, ◌+◌, Bool, true, false, refl, ap, sym, inr, Result, Ok, Err, nat_lt, subst}
 use Rattle.std.specs.Prelude.{if◌then◌else◌, OnOk, IfOk}
 use Rattle.std.specs.Result.{result_map_both}
 use Rattle.ob_items.specs.declared.error.OpError.{OpError}

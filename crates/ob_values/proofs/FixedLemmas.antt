@@ -1,5 +1,5 @@
 -- What is frozen or never written stays as it is.
-use Rattle.std.proofs.Common.{◌≡◌, ◌≢◌, ◌⊎◌, ℕ, Bool, true, false, Some, None, IsSome, IsTrue, List, [], ◌∷◌, refl, ap, subst, ◌∙◌, sym, inl, inr, Option, length, slice_get, slice_set, Result, Ok, Err, OnOk, OnErr, is_some, fold, arith, ◌+◌, ◌-◌, remove, reverse, IfOk}
+use Rattle.std.proofs.Common.{◌≡◌, ◌≢◌, ◌⊎◌, ℕ, Bool, true, false, Some, None, IsSome, List, [], ◌∷◌, refl, ap, subst, ◌∙◌, sym, inl, inr, Option, length, slice_get, slice_set, Result, Ok, Err, OnOk, OnErr, is_some, fold, arith, ◌+◌, ◌-◌, remove, reverse, IfOk}
 use Rattle.std.proofs.lemmas.Bool.{true≢false}
 use Rattle.std.proofs.lemmas.Option.{none-some, same_Some}
 use Rattle.std.proofs.lemmas.List.{get_or-set_other}
@@ -10,7 +10,7 @@ use Rattle.ob_items.specs.declared.value.Value.{Value}
 use Rattle.ob_items.specs.Item.{Item}
 use Rattle.ob_items.specs.declared.item.Body.{Body}
 use Rattle.ob_items.specs.Bodies.{array_of, properties_of, box_of, hooks_of, kept_of, after_take, kept_from}
-use Rattle.ob_items.specs.Items.{at_item, is_frozen_at, changed, with_body, fault_of, element_fault, property_fault, frozen_fault, hook_fault, with_element}
+use Rattle.ob_items.specs.Items.{at_item, is_frozen_at, with_body, fault_of, element_fault, property_fault, frozen_fault, hook_fault, with_element}
 use Rattle.ob_items.specs.Properties.{Keyed, with_property}
 use Rattle.ob_items.specs.declared.error.SetError.{SetError}
 use Rattle.ob_items.specs.declared.error.SetError.TheVariants as S
@@ -21,9 +21,9 @@ use Rattle.ob_items.specs.declared.frame.Taken.{Taken}
 use Rattle.ob_items.specs.declared.item.Body.TheVariants as B
 use Rattle.ob_items.specs.Region.{Cells, no_cells, with_item, rewritten, marked}
 use Rattle.ob_items.proofs.ListLemmas.{slice_get-set_same, slice_get-set_other, slice_get-push_within}
-use Rattle.ob_values.specs.Fixed.{is_never_written, is_fixed, IsKept, KeepsFixedAt, KeepsFixed}
+use Rattle.ob_values.specs.Fixed.{is_never_written, is_fixed, KeepsFixedAt, KeepsFixed}
 use Rattle.ob_values.specs.Freeze.{Freezes}
-use Rattle.ob_values.specs.Store.{Store, region_of, item_of, read_item, is_frozen, with_region, written, with_new, next_ref, with_mark, Updates, with_literal_in}
+use Rattle.ob_values.specs.Store.{Store, region_of, item_of, read_item, is_frozen, with_region, written, with_new, with_mark, Updates, with_literal_in}
 use Rattle.ob_values.proofs.LiteralSound.{literal_stays}
 use Rattle.ob_values.proofs.SoundLemmas.{opened_items}
 use Rattle.ob_values.proofs.StoreLemmas.{Writes, same_or_not, Writes-with_region, item_from_region, same_items, more_items}

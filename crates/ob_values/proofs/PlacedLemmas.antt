@@ -1,5 +1,5 @@
 -- What plain data becomes is sound.
-use Rattle.std.proofs.Common.{◌≡◌, ◌⊎◌, ℕ, Bool, false, List, [], ◌∷◌, ◌++◌, refl, ap, subst, ◌∙◌, sym, inl, inr, IsTrue, Result, Ok, Err, IfOk, OnOk, ◌+◌, ◌<◌, length, drop, get_or, map, add-one, rules}
+use Rattle.std.proofs.Common.{◌≡◌, ◌⊎◌, ℕ, false, List, [], ◌∷◌, ◌++◌, ap, subst, ◌∙◌, sym, inl, inr, IsTrue, Result, Ok, Err, IfOk, OnOk, ◌+◌, ◌<◌, length, drop, get_or, map, add-one, rules}
 use Rattle.std.proofs.lemmas.List.Elements.{Contains-append_cases, Contains-append_left, Contains-append_right, Contains-push_cases}
 use Rattle.std.proofs.lemmas.List.Sums.{sum_by-cons}
 use Rattle.std.proofs.Math.Seq.{drop-cons}
@@ -21,7 +21,7 @@ use Rattle.ob_values.specs.Store.{Store}
 use Rattle.ob_values.proofs.PointerLemmas.{more, property_cases}
 use Rattle.ob_values.proofs.ReachLemmas.{Reaches-root}
 use Rattle.ob_values.proofs.RootLemmas.{IsSound-fewer}
-use Rattle.ob_values.proofs.SeenLemmas.{Contains-cons_cases, Contains-cons, Contains-head, Contains-none}
+use Rattle.ob_values.proofs.SeenLemmas.{Contains-cons_cases, Contains-cons, Contains-head}
 
 pub AddsValues-none : (s n : Store) → n ≡ s → AddsValues s n []
 AddsValues-none s n e roots sound = subst (λ m. IsSound m roots) (sym e) sound

@@ -1,11 +1,9 @@
 -- The plain data of a value, or why it has none.
-use Rattle.std.proofs.Common.{◌≡◌, ◌↔◌, ℕ, ◌≤◌, ◌^◌, true, false, not, cond, Some, None, Ok, Err, Result, IsTrue, [], ◌∷◌, ◌∙◌, refl, ap, sym, arith}
+use Rattle.std.proofs.Common.{◌≡◌, ◌↔◌, ◌≤◌, ◌^◌, false, cond, Ok, Err, IsTrue, [], ◌∷◌, ◌∙◌, ap, sym, arith}
 use Rattle.std.proofs.lemmas.Bool.{true≢false}
 use Rattle.std.proofs.lemmas.Bool.Decides.{nat_tests}
 use Rattle.std.specs.List.{sum_by}
 use Rattle.std.specs.Option.{option_map_or}
-use Rattle.ob_base.specs.declared.plain.Plain.{Plain}
-use Rattle.ob_items.specs.declared.error.PlainError.{PlainError}
 use Rattle.ob_items.specs.declared.error.PlainError.TheVariants as E
 use Rattle.ob_items.specs.declared.value.Value.{Value}
 use Rattle.ob_values.specs.Freeze.{refs_of}

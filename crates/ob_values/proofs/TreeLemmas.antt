@@ -1,5 +1,5 @@
 -- The elements of a tree, and how far down it goes.
-use Rattle.std.proofs.Common.{◌≡◌, ◌⊎◌, ℕ, zero, suc, ◌+◌, ◌^◌, ◌<◌, ◌≤◌, ◌||◌, Bool, true, false, Option, Some, None, List, [], ◌∷◌, ◌++◌, refl, ap, subst, ◌∙◌, sym, arith, inl, inr, length, length-append, cond, nat_lt, OnSome, ◌-◌, ◌*◌}
+use Rattle.std.proofs.Common.{◌≡◌, ℕ, zero, suc, ◌+◌, ◌^◌, ◌<◌, ◌≤◌, ◌||◌, Bool, true, false, Option, Some, None, List, [], ◌∷◌, ◌++◌, refl, ap, subst, ◌∙◌, sym, arith, inl, inr, length, length-append, cond, nat_lt, OnSome, ◌-◌, ◌*◌}
 use Rattle.std.proofs.lemmas.Bool.{cases_lt, true≢false}
 use Rattle.std.proofs.lemmas.Bool.Decides.{nat_tests}
 use Rattle.std.proofs.lemmas.Option.{none-some, same_Some}
@@ -15,7 +15,7 @@ use Rattle.ob_items.specs.declared.item.Body.TheVariants as B
 use Rattle.ob_values.specs.Freeze.{refs_of}
 use Rattle.ob_values.specs.PlainSearch.{within}
 use Rattle.ob_values.specs.PlainOf.{parts_of, own_elements, items_in, elements_at, tree_elements, goes_down, HasCycle, is_endless}
-use Rattle.ob_values.specs.Reach.{Walk, Reaches}
+use Rattle.ob_values.specs.Reach.{Walk}
 use Rattle.ob_values.specs.Store.{Store, item_of}
 use Rattle.ob_values.proofs.SeenLemmas.{Contains-cons_cases, Contains-cons, Contains-head, Contains-none}
 

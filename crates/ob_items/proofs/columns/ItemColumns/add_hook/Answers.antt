@@ -1,4 +1,4 @@
-use Rattle.std.proofs.Common.{◌≡◌, ◌+◌, ◌∙◌, ap, is_some}
+use Rattle.std.proofs.Common.{◌+◌, ◌∙◌, ap, is_some}
 use Rattle.ob_items.specs.Bodies.{hooks_of}
 use Rattle.std.specs.Option.{option_map_or}
 use Rattle.ob_items.specs.Items.{hook_fault}
