@@ -13,7 +13,7 @@ use std::alloc::Global;
 use std::marker::Model;
 
 /// As many properties as are looked for one after the other. For more there is a table.
-pub(crate) const MAX_FEW: usize = 8;
+pub(crate) const MAX_FEW: usize = 16;
 
 /// Properties in order of creation, which a contract sees as the list of their keys and values.
 #[derive(Drop)]

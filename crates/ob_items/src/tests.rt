@@ -56,8 +56,18 @@ fn properties_keep_their_places(rt: HostRuntime) -> Result<(), Fail> {
         // by how many there are
         ("", "", "", ""),
         ("a", "1", "a", "1"),
-        ("abcdefgh", "12345678", "abcdefgh", "12345678"),
-        ("abcdefghi", "123456789", "abcdefghi", "123456789"),
+        (
+            "abcdefghijklmnop",
+            "123456789ABCDEFG",
+            "abcdefghijklmnop",
+            "123456789ABCDEFG",
+        ),
+        (
+            "abcdefghijklmnopq",
+            "123456789ABCDEFGH",
+            "abcdefghijklmnopq",
+            "123456789ABCDEFGH",
+        ),
         (
             "tsrqponmlkjihgfedcba",
             "ABCDEFGHIJKLMNOPQRST",
@@ -71,13 +81,33 @@ fn properties_keep_their_places(rt: HostRuntime) -> Result<(), Fail> {
         ("ba7", "123", "7ba", "312"),
         ("b9a0", "1234", "09ba", "4213"),
         ("hgfedcba7", "123456789", "7hgfedcba", "912345678"),
-        ("hgfedcba7i", "123456789A", "7hgfedcbai", "912345678A"),
+        (
+            "ponmlkjihgfedcba7q",
+            "123456789ABCDEFGHI",
+            "7ponmlkjihgfedcbaq",
+            "H123456789ABCDEFGI",
+        ),
         // with a key that is written again
         ("aa", "12", "a", "2"),
         ("baab", "1234", "ba", "43"),
-        ("abcdefghh", "123456789", "abcdefgh", "12345679"),
-        ("abcdefgha", "123456789", "abcdefgh", "92345678"),
-        ("abcdefghid", "123456789A", "abcdefghi", "123A56789"),
+        (
+            "abcdefghijklmnopp",
+            "123456789ABCDEFGH",
+            "abcdefghijklmnop",
+            "123456789ABCDEFH",
+        ),
+        (
+            "abcdefghijklmnopa",
+            "123456789ABCDEFGH",
+            "abcdefghijklmnop",
+            "H23456789ABCDEFG",
+        ),
+        (
+            "abcdefghijklmnopqd",
+            "123456789ABCDEFGHI",
+            "abcdefghijklmnopq",
+            "123I56789ABCDEFGH",
+        ),
         ("b7a7b", "12345", "7ba", "453"),
     ] {
         let properties = written(alloc, keys, values)?;
