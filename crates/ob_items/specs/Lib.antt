@@ -1,5 +1,6 @@
 pub mod Binding
 pub mod Bodies
+pub mod Captured
 pub mod Columns
 pub mod Distinct
 pub mod IndexText

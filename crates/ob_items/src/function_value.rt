@@ -1,4 +1,5 @@
 ghost use Rattle.std.specs.Prelude.{◌≡◌, IfOk};
+ghost use Rattle.ob_items.specs.Captured.{captured};
 
 use crate::{CodeKey, Ref};
 use ob_base::{List, NoMemory};
@@ -6,6 +7,7 @@ use sqlite_items::Boxed;
 use std::alloc::Global;
 use std::marker::Model;
 use std::rc::Rc;
+use std::slice;
 
 /// What the function values that one function text gives in a run have in common.
 #[derive(Clone, Copy, Debug, PartialEq, Eq)]
@@ -22,20 +24,28 @@ pub struct SharedFunction {
 #[derive(Drop)]
 pub struct FunctionValue {
     shared: Rc<SharedFunction>,
-    // The boxes of the captured bindings; none where there is no box, so that nothing is allocated.
-    boxes: Option<Boxed<List<Ref>>>,
+    boxes: CapturedBoxes,
+}
+
+// The boxes of captured bindings, by how many there are: for none nothing is allocated, and for one no
+// list.
+#[derive(Drop)]
+enum CapturedBoxes {
+    Empty,
+    One(Box<Ref>),
+    Several(Boxed<List<Ref>>),
 }
 
 // So an item with a function value is no larger than others.
 const _: () = prove!(size_of::<FunctionValue>() == 24);
 
 impl Model for FunctionValue {
-    ghost use Rattle.std.specs.Prelude.{[], unwrap_or};
+    ghost use Rattle.ob_items.specs.Captured.{captured};
     ghost use Rattle.ob_items.specs.declared.item.Closure.{Closure as TheClosure};
 
     ghost Value = { TheClosure };
 
-    ghost view = { λ f. record { code = f.shared.value.code; boxes = unwrap_or f.boxes []; inputs = f.shared.value.inputs; invalidation = f.shared.value.invalidation } };
+    ghost view = { λ f. record { code = f.shared.value.code; boxes = captured f.boxes; inputs = f.shared.value.inputs; invalidation = f.shared.value.invalidation } };
 }
 
 impl FunctionValue {
@@ -50,16 +60,9 @@ impl FunctionValue {
     ) -> Result<FunctionValue, NoMemory>
         ensures { IfOk result (λ f. f ≡ record { code = shared.value.code; boxes = boxes.now; inputs = shared.value.inputs; invalidation = shared.value.invalidation }) }
     {
-        if boxes.is_empty() {
-            return Ok(FunctionValue {
-                shared,
-                boxes: None,
-            });
-        }
-        let boxes = Boxed::new(alloc, List::from_slice(alloc, boxes)?)?;
         Ok(FunctionValue {
             shared,
-            boxes: Some(boxes),
+            boxes: CapturedBoxes::new(alloc, boxes)?,
         })
     }
 
@@ -75,8 +78,9 @@ impl FunctionValue {
         ensures { result.now ≡ self.now.boxes }
     {
         match &self.boxes {
-            Some(boxes) => boxes.get().as_slice(),
-            None => &[],
+            CapturedBoxes::Empty => &[],
+            CapturedBoxes::One(only) => slice::from_ref(&**only),
+            CapturedBoxes::Several(boxes) => boxes.get().as_slice(),
         }
     }
 
@@ -92,5 +96,17 @@ impl FunctionValue {
         ensures { result ≡ self.now.invalidation }
     {
         self.shared.invalidation
+    }
+}
+
+impl CapturedBoxes {
+    fn new(alloc: Global, boxes: &[Ref]) -> Result<CapturedBoxes, NoMemory>
+        ensures { IfOk result (λ kept. captured kept ≡ boxes.now) }
+    {
+        Ok(match boxes {
+            [] => CapturedBoxes::Empty,
+            [only] => CapturedBoxes::One(Box::new(alloc, *only)?),
+            _ => CapturedBoxes::Several(Boxed::new(alloc, List::from_slice(alloc, boxes)?)?),
+        })
     }
 }

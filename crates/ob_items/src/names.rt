@@ -1,10 +1,14 @@
 //! The names of properties, which the objects of a region share.
-ghost use Rattle.std.specs.Prelude.{◌≡◌, IfOk};
-ghost use Rattle.std.specs.Rc.{rc_slice_items};
+ghost use Rattle.std.specs.Prelude.{◌≡◌, nat_eq, IfOk, IfSome};
+ghost use Rattle.std.specs.Cmp.{partial_equiv_from_equiv};
+ghost use Rattle.std.specs.Cmp.Lexicographic.{pointwise, bytes_decides, nat_list_eq_equiv};
+ghost use Rattle.std.specs.Hash as fed;
+ghost use Rattle.std.proofs.Common.{ap};
 
-use indexmap::IndexSet;
+use indexmap::{Equivalent, IndexSet};
 use ob_base::NoMemory;
 use std::alloc::Global;
+use std::hash::{Hash, Hasher};
 use std::marker::Model;
 use std::rc::RcSlice;
 
@@ -17,7 +21,7 @@ pub struct Name {
 /// Names, each once.
 #[derive(Drop)]
 pub struct Names {
-    table: IndexSet<RcSlice<u16>>,
+    table: IndexSet<Name>,
 }
 
 impl Model for Name {
@@ -36,11 +40,66 @@ impl Model for Names {
 }
 
 impl Name {
+    // The name of these units, which nothing shares yet.
+    fn new(alloc: Global, units: &[u16]) -> Result<Name, NoMemory>
+        ensures { IfOk result (λ name. name ≡ units.now) }
+    {
+        Ok(Name {
+            units: RcSlice::from_slice(alloc, units)?,
+        })
+    }
+
+    // The same name once more, of the same text.
+    fn share(&self) -> Result<Name, NoMemory>
+        ensures { IfOk result (λ name. name ≡ self.now) }
+    {
+        Ok(Name {
+            units: self.units.clone()?,
+        })
+    }
+
     /// Its units.
     pub fn as_slice(&self) -> &[u16]
         ensures { result.now ≡ self.now }
     {
         self.units.as_slice()
+    }
+}
+
+impl PartialEq for Name {
+    ghost eq = { pointwise nat_eq };
+
+    ghost laws = { partial_equiv_from_equiv nat_list_eq_equiv };
+
+    fn eq(&self, other: &Name) -> bool {
+        self.as_slice() == other.as_slice()
+    }
+}
+
+impl Eq for Name {
+    ghost laws = { nat_list_eq_equiv };
+}
+
+impl Hash for Name {
+    ghost hash_input = { fed.slice fed.u16 };
+
+    ghost respects_eq = { λ x y h. ap (fed.slice fed.u16) ((bytes_decides x y).0 h) };
+
+    fn hash<H: Hasher>(&self, state: &mut H) {
+        self.as_slice().hash(state);
+    }
+}
+
+// So a name that is there is found by its units, and none is made to look for it.
+impl Equivalent<Name> for &[u16] {
+    ghost equivalent = { λ q k. pointwise nat_eq q.now k };
+
+    ghost respects_hash = { λ q k h. ap (fed.slice fed.u16) ((bytes_decides q.now k).0 h) };
+
+    ghost respects_eq = { λ q x y. nat_list_eq_equiv.congr q.now x y };
+
+    fn equivalent(&self, key: &Name) -> bool {
+        *self == key.as_slice()
     }
 }
 
@@ -52,28 +111,26 @@ impl Names {
         }
     }
 
-    /// The name of these units: the one that is there, or else a new one.
+    /// The name of these units: the one that is there, or else a new one, which is there from then on.
     ///
     /// # Errors
     /// `NoMemory` where an allocation is refused.
     pub fn share(&mut self, alloc: Global, units: &[u16]) -> Result<Name, NoMemory>
         ensures { IfOk result (λ name. name ≡ units.now) }
     {
-        shared(&mut self.table, RcSlice::from_slice(alloc, units)?)
+        if let Some(kept) = find(&self.table, units) {
+            return kept.share();
+        }
+        let name = Name::new(alloc, units)?;
+        self.table.insert(name.share()?)?;
+        Ok(name)
     }
 }
 
-// The name of a table that equals this one, which is added where there is none.
-fn shared(table: &mut IndexSet<RcSlice<u16>>, units: RcSlice<u16>) -> Result<Name, NoMemory>
-    ensures { IfOk result (λ name. name ≡ rc_slice_items units) }
+fn find<'a>(table: &'a IndexSet<Name>, units: &[u16]) -> Option<&'a Name>
+    ensures { IfSome result (λ name. name.now ≡ units.now) }
 {
-    let (at, _) = table.insert_full(units)?;
-    match table.get_index(at) {
-        Some(kept) => Ok(Name {
-            units: kept.clone()?,
-        }),
-        None => unreachable!(),
-    }
+    table.get(units)
 }
 
 #[cfg(test)]
