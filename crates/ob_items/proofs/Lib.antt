@@ -1,6 +1,7 @@
 pub mod ColumnLemmas
 pub mod DecimalLemmas
 pub mod FewLemmas
+pub mod IndexLemmas
 pub mod ListLemmas
 pub mod LiteralLemmas
 mod NumberRows

@@ -1,5 +1,5 @@
 -- How an object keeps its properties.
-use Rattle.ob_items.specs.Properties.{Keyed, no_properties, only_named}
+use Rattle.ob_items.specs.Properties.{Keyed, no_properties, only_named, only_indices}
 use Rattle.ob_items.specs.declared.properties.Kept.{Kept}
 use Rattle.ob_items.specs.declared.properties.Kept.TheVariants as K
 
@@ -7,4 +7,5 @@ use Rattle.ob_items.specs.declared.properties.Kept.TheVariants as K
 abbrev pub properties_kept : Kept → Keyed
 properties_kept K.Empty = no_properties
 properties_kept (K.Few named) = only_named named
+properties_kept (K.Indices indices) = only_indices indices
 properties_kept (K.Many keyed) = keyed

@@ -11,3 +11,4 @@ pub mod Messages
 pub mod Numbers
 pub mod Properties
 pub mod Region
+pub mod Rising

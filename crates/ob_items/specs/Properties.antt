@@ -23,6 +23,10 @@ no_properties = record { indices = []; named = [] }
 abbrev pub only_named : List (List ℕ × Value) → Keyed
 only_named named = record { indices = []; named = named }
 
+-- these properties, all of them at array indices
+abbrev pub only_indices : List (ℕ × Value) → Keyed
+only_indices indices = record { indices = indices; named = [] }
+
 -- the value at a key
 abbrev pub property : Keyed → List ℕ → Option Value
 property p key =

@@ -6,6 +6,7 @@ mod binding;
 mod columns;
 mod error;
 mod few;
+mod few_indices;
 mod frame;
 mod function_value;
 mod index_text;

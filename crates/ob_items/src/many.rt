@@ -1,4 +1,4 @@
-//! The properties of an object that has many of them, or one whose key is an array index.
+//! The properties of an object that has many of them, or some at array indices and some that aren't.
 ghost use Rattle.std.specs.Prelude.{◌≡◌, ◌≤◌, ◌==◌, ◌++◌, IfOk, OnOk, OnErr, length, map, take, decimal};
 ghost use Rattle.ob_items.specs.Properties.{property, with_property, count, values_of, keys_of, entries_of, index_entry, named_entry};
 
@@ -31,19 +31,18 @@ impl Model for ManyProperties {
 }
 
 impl ManyProperties {
-    ghost use Rattle.ob_items.specs.Properties.{only_named};
-
-    /// The properties of a table, none of them at an array index.
+    /// The properties of a tree of those at array indices and a table of the others.
     ///
     /// # Errors
     /// `NoMemory` where an allocation is refused.
-    pub(crate) fn new(alloc: Global, named: UnitsMap<Value>) -> Result<ManyProperties, NoMemory>
-        ensures { IfOk result (λ many. many ≡ only_named named) }
+    pub(crate) fn new(
+        alloc: Global,
+        indices: BTreeMap<u32, Value>,
+        named: UnitsMap<Value>,
+    ) -> Result<ManyProperties, NoMemory>
+        ensures { IfOk result (λ many. many ≡ record { indices = indices.entries; named = named }) }
     {
-        let maps = PropertyMaps {
-            indices: BTreeMap::new(alloc),
-            named,
-        };
+        let maps = PropertyMaps { indices, named };
         match Box::new(alloc, maps) {
             Ok(maps) => Ok(ManyProperties { maps }),
             Err(_) => Err(NoMemory),

@@ -1,13 +1,15 @@
 ghost use Rattle.std.specs.Prelude.{◌≡◌, ◌==◌, IfOk, OnOk, OnErr, take, option_map, unwrap_or};
-ghost use Rattle.ob_items.specs.Properties.{property, with_property, no_properties, only_named, count, values_of, keys_of, entries_of};
+ghost use Rattle.ob_items.specs.Properties.{property, with_property, no_properties, only_named, only_indices, count, values_of, keys_of, entries_of};
 ghost use Rattle.ob_items.specs.Kept.{properties_kept};
 
 use crate::few::{FewProperties, MAX_FEW};
+use crate::few_indices::FewIndices;
 use crate::index_text::index_of;
 use crate::many::ManyProperties;
 use crate::{Names, UnitsMap, Value};
 use ob_base::{List, NoMemory, Units};
 use std::alloc::Global;
+use std::collections::BTreeMap;
 use std::marker::Model;
 
 /// The properties of an object, in the order of their keys (ECMA-262, "OrdinaryOwnPropertyKeys").
@@ -26,11 +28,12 @@ pub struct Property {
     pub value: Value,
 }
 
-// The properties, by how many there are.
+// The properties, by how many there are and what keys they have.
 #[derive(Drop)]
 enum Kept {
     Empty,
     Few(FewProperties),
+    Indices(FewIndices),
     Many(ManyProperties),
 }
 
@@ -46,13 +49,10 @@ impl Model for Properties {
 
 impl Properties {
     /// No property. It takes no memory.
-    ///
-    /// # Errors
-    /// None.
-    pub fn new(_alloc: Global) -> Result<Properties, NoMemory>
-        ensures { IfOk result (λ p. p ≡ no_properties) }
+    pub fn new() -> Properties
+        ensures { result ≡ no_properties }
     {
-        Ok(Properties { kept: Kept::Empty })
+        Properties { kept: Kept::Empty }
     }
 
     /// The value at a key; none where there is no such property.
@@ -64,6 +64,10 @@ impl Properties {
             Kept::Few(few) => match index_of(key) {
                 Some(_) => None,
                 None => few.get(key),
+            },
+            Kept::Indices(few) => match index_of(key) {
+                Some(index) => few.get(index),
+                None => None,
             },
             Kept::Many(many) => many.get(key),
         }
@@ -96,6 +100,13 @@ impl Properties {
                 }
                 None => Ok(()),
             },
+            Kept::Indices(few) => match set_indices(alloc, few, key, value)? {
+                Some(many) => {
+                    self.kept = Kept::Many(many);
+                    Ok(())
+                }
+                None => Ok(()),
+            },
             Kept::Many(many) => many.set(alloc, key, value),
         }
     }
@@ -110,6 +121,7 @@ impl Properties {
         match &self.kept {
             Kept::Empty => Ok(List::new(alloc)),
             Kept::Few(few) => few.values(alloc),
+            Kept::Indices(few) => few.values(alloc),
             Kept::Many(many) => many.values(alloc),
         }
     }
@@ -124,6 +136,7 @@ impl Properties {
         match &self.kept {
             Kept::Empty => Ok(List::new(alloc)),
             Kept::Few(few) => few.keys(alloc),
+            Kept::Indices(few) => few.keys(alloc),
             Kept::Many(many) => many.keys(alloc),
         }
     }
@@ -135,6 +148,7 @@ impl Properties {
         match &self.kept {
             Kept::Empty => true,
             Kept::Few(few) => few.len() == 0,
+            Kept::Indices(few) => few.len() == 0,
             Kept::Many(many) => many.is_empty(),
         }
     }
@@ -149,6 +163,7 @@ impl Properties {
         match &self.kept {
             Kept::Empty => Ok(List::new(alloc)),
             Kept::Few(few) => few.first(alloc, n),
+            Kept::Indices(few) => few.first(alloc, n),
             Kept::Many(many) => many.first(alloc, n),
         }
     }
@@ -163,6 +178,7 @@ impl Properties {
         match &self.kept {
             Kept::Empty => Ok(List::new(alloc)),
             Kept::Few(few) => few.entries(alloc),
+            Kept::Indices(few) => few.entries(alloc),
             Kept::Many(many) => many.entries(alloc),
         }
     }
@@ -177,11 +193,7 @@ fn first_kept(alloc: Global, names: &mut Names, key: &[u16], value: Value) -> Re
             let name = names.share(alloc, key)?;
             Ok(Kept::Few(FewProperties::new(alloc, name, value)?))
         }
-        Some(_) => {
-            let mut many = ManyProperties::new(alloc, UnitsMap::new(alloc))?;
-            many.set(alloc, key, value)?;
-            Ok(Kept::Many(many))
-        }
+        Some(index) => Ok(Kept::Indices(FewIndices::new(alloc, index, value)?)),
     }
 }
 
@@ -201,7 +213,28 @@ fn set_few(
         few.set(alloc, names, key, value)?;
         return Ok(None);
     }
-    let mut many = ManyProperties::new(alloc, few.table(alloc)?)?;
+    let mut many = ManyProperties::new(alloc, BTreeMap::new(alloc), few.table(alloc)?)?;
+    many.set(alloc, key, value)?;
+    Ok(Some(many))
+}
+
+// The same of properties that are all at array indices.
+fn set_indices(
+    alloc: Global,
+    few: &mut FewIndices,
+    key: &[u16],
+    value: Value,
+) -> Result<Option<ManyProperties>, NoMemory>
+    ensures ok { IfOk result (λ many. unwrap_or many (only_indices few.new) ≡ with_property (only_indices few.old) key.now value) }
+    ensures err { OnErr result (few.new ≡ few.old) }
+{
+    if let Some(index) = index_of(key) {
+        if few.len() < MAX_FEW || few.get(index).is_some() {
+            few.set(index, value)?;
+            return Ok(None);
+        }
+    }
+    let mut many = ManyProperties::new(alloc, few.tree(alloc)?, UnitsMap::new(alloc))?;
     many.set(alloc, key, value)?;
     Ok(Some(many))
 }

@@ -36,7 +36,7 @@ fn index_texts_are_told(rt: HostRuntime) -> Result<(), Fail> {
 // The properties whose keys are the letters of `keys`, written in turn with the letters of `values`.
 fn written(alloc: Global, keys: &str, values: &str) -> Result<Properties, NoMemory> {
     let mut names = Names::new(alloc);
-    let mut properties = Properties::new(alloc)?;
+    let mut properties = Properties::new();
     for (key, value) in keys.bytes().zip(values.bytes()) {
         let key = [u16::from(key)];
         properties.set(
@@ -81,6 +81,10 @@ fn properties_keep_their_places(rt: HostRuntime) -> Result<(), Fail> {
         ("ba7", "123", "7ba", "312"),
         ("b9a0", "1234", "09ba", "4213"),
         ("hgfedcba7", "123456789", "7hgfedcba", "912345678"),
+        // with array indices alone, and then with another key
+        ("9170", "1234", "0179", "4231"),
+        ("1721", "1234", "127", "432"),
+        ("31a2", "1234", "123a", "2413"),
         (
             "ponmlkjihgfedcba7q",
             "123456789ABCDEFGHI",
@@ -126,6 +130,28 @@ fn properties_keep_their_places(rt: HostRuntime) -> Result<(), Fail> {
         assert_eq!(rt; properties.first(alloc, 1)?.len(), keys_kept.len().min(1));
         assert_eq!(rt; properties.keys(alloc)?.len(), keys_kept.len());
         assert_eq!(rt; properties.values(alloc)?.len(), keys_kept.len());
+    }
+    Ok(())
+}
+
+#[test]
+fn array_indices_rise(rt: HostRuntime) -> Result<(), Fail> {
+    let alloc = rt.alloc();
+    for n in [1u32, 2, 16, 17, 40] {
+        let mut names = Names::new(alloc);
+        let mut properties = Properties::new();
+        for index in (0..n).rev() {
+            let key = decimal_units(alloc, u64::from(index))?;
+            let value = Value::Int(i64::from(index));
+            properties.set(alloc, &mut names, key.as_slice(), Value::Null)?;
+            properties.set(alloc, &mut names, key.as_slice(), value)?;
+        }
+        let entries = properties.entries(alloc)?;
+        assert_eq!(rt; entries.len(), n as usize);
+        for (index, entry) in (0..n).zip(entries.as_slice()) {
+            assert_eq!(rt; index_of(entry.key.as_slice()), Some(index));
+            assert!(rt; entry.value == Value::Int(i64::from(index)));
+        }
     }
     Ok(())
 }

@@ -156,7 +156,7 @@ fn place_props(
     ensures sound { IfOk result (λ properties. AddsValues regions.old regions.new (values_of properties)) }
     ensures fixed { OnOk result (KeepsFixed regions.old regions.new) }
 {
-    let mut properties = Properties::new(regions.alloc())?;
+    let mut properties = Properties::new();
     for prop in props {
         let value = place(regions, region, &prop.value)?;
         regions.set_property_of(region, &mut properties, prop.key.as_slice(), value)?;

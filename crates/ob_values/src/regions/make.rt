@@ -170,10 +170,7 @@ impl Regions {
         if self.is_full_for(region, 1) {
             return Err(AllocError::HeapFull);
         }
-        match Properties::new(self.alloc) {
-            Ok(properties) => self.add(region, Body::Object(properties), 1),
-            Err(_) => Err(AllocError::NoMemory),
-        }
+        self.add(region, Body::Object(Properties::new()), 1)
     }
 
     /// Makes a text of these units, which costs one element for each 16, rounded up, and at least 1.
