@@ -8,4 +8,5 @@ abbrev pub properties_kept : Kept → Keyed
 properties_kept K.Empty = no_properties
 properties_kept (K.Few named) = only_named named
 properties_kept (K.Indices indices) = only_indices indices
+properties_kept (K.Both indices named) = record { indices = indices; named = named }
 properties_kept (K.Many keyed) = keyed

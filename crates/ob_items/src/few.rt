@@ -101,6 +101,24 @@ impl FewProperties {
         self.entries.as_slice().len()
     }
 
+    /// Whether a property at this key would leave them few.
+    pub(crate) fn has_room_for(&self, key: &[u16]) -> bool {
+        self.len() < MAX_FEW || self.get(key).is_some()
+    }
+
+    /// The same properties once more.
+    ///
+    /// # Errors
+    /// `NoMemory` where an allocation is refused.
+    pub(crate) fn copy(&self, alloc: Global) -> Result<FewProperties, NoMemory>
+        ensures { IfOk result (λ few. few ≡ self.now) }
+    {
+        match Box::new(alloc, copy_of(alloc, self.entries.as_slice())?) {
+            Ok(entries) => Ok(FewProperties { entries }),
+            Err(_) => Err(NoMemory),
+        }
+    }
+
     /// The value at a key; none where it isn't there.
     pub(crate) fn get(&self, key: &[u16]) -> Option<Value>
         ensures { result ≡ lookup (pointwise nat_eq key.now) self.now }
@@ -228,6 +246,16 @@ fn push_exact(entries: &mut Vec<Named>, named: Named) -> Result<(), NoMemory>
     entries.reserve_exact(1)?;
     entries.push_reserved(named);
     Ok(())
+}
+
+fn copy_of(alloc: Global, entries: &[Named]) -> Result<Vec<Named>, NoMemory>
+    ensures { IfOk result (λ copy. copy.items ≡ entries.now) }
+{
+    let mut copy = Vec::new(alloc);
+    for named in entries {
+        push_exact(&mut copy, Named::new(named.key.share()?, named.value()))?;
+    }
+    Ok(copy)
 }
 
 fn values_of(alloc: Global, entries: &[Named]) -> Result<List<Value>, NoMemory>

@@ -6,6 +6,7 @@ ghost use Rattle.std.specs.BTreeMap.{insert_entry, is_at};
 ghost use Rattle.ob_items.specs.Properties.{index_entry};
 ghost use Rattle.ob_items.specs.Rising.{AreRising};
 
+use crate::few::MAX_FEW;
 use crate::index_text::decimal_units;
 use crate::{Property, Value};
 use ob_base::{List, NoMemory, Units};
@@ -56,6 +57,24 @@ impl FewIndices {
         ensures { result ≡ length self.now }
     {
         self.entries.as_slice().len()
+    }
+
+    /// Whether a property at this index would leave them few.
+    pub(crate) fn has_room_for(&self, index: u32) -> bool {
+        self.len() < MAX_FEW || self.get(index).is_some()
+    }
+
+    /// The same properties once more.
+    ///
+    /// # Errors
+    /// `NoMemory` where an allocation is refused.
+    pub(crate) fn copy(&self, alloc: Global) -> Result<FewIndices, NoMemory>
+        ensures { IfOk result (λ few. few ≡ self.now) }
+    {
+        match Box::new(alloc, Vec::from_slice(alloc, self.entries.as_slice())?) {
+            Ok(entries) => Ok(FewIndices { entries }),
+            Err(_) => Err(NoMemory),
+        }
     }
 
     /// The value at an index; none where it isn't there.

@@ -49,8 +49,11 @@ impl Name {
         })
     }
 
-    // The same name once more, of the same text.
-    fn share(&self) -> Result<Name, NoMemory>
+    /// The same name once more, of the same text.
+    ///
+    /// # Errors
+    /// `NoMemory` where it is shared as often as can be counted.
+    pub fn share(&self) -> Result<Name, NoMemory>
         ensures { IfOk result (λ name. name ≡ self.now) }
     {
         Ok(Name {

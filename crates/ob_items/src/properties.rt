@@ -1,8 +1,9 @@
-ghost use Rattle.std.specs.Prelude.{◌≡◌, ◌==◌, IfOk, OnOk, OnErr, take, option_map, unwrap_or};
+ghost use Rattle.std.specs.Prelude.{◌≡◌, ◌==◌, ◌++◌, IfOk, OnOk, OnErr, take};
+ghost use Rattle.std.specs.Option.{option_map_or};
 ghost use Rattle.ob_items.specs.Properties.{property, with_property, no_properties, only_named, only_indices, count, values_of, keys_of, entries_of};
 ghost use Rattle.ob_items.specs.Kept.{properties_kept};
 
-use crate::few::{FewProperties, MAX_FEW};
+use crate::few::FewProperties;
 use crate::few_indices::FewIndices;
 use crate::index_text::index_of;
 use crate::many::ManyProperties;
@@ -19,7 +20,7 @@ pub struct Properties {
 }
 
 // An object whose properties are few keeps them in one short list, and an empty one asks for no memory.
-const _: () = prove!(size_of::<Properties>() == 16);
+const _: () = prove!(size_of::<Properties>() == 24);
 
 /// A property: its key and its value.
 #[derive(Drop)]
@@ -34,6 +35,7 @@ enum Kept {
     Empty,
     Few(FewProperties),
     Indices(FewIndices),
+    Both(FewIndices, FewProperties),
     Many(ManyProperties),
 }
 
@@ -69,6 +71,10 @@ impl Properties {
                 Some(index) => few.get(index),
                 None => None,
             },
+            Kept::Both(indices, named) => match index_of(key) {
+                Some(index) => indices.get(index),
+                None => named.get(key),
+            },
             Kept::Many(many) => many.get(key),
         }
     }
@@ -88,27 +94,20 @@ impl Properties {
         ensures ok { OnOk result (self.new ≡ with_property self.old key.now value) }
         ensures err { OnErr result (self.new ≡ self.old) }
     {
-        match &mut self.kept {
-            Kept::Empty => {
-                self.kept = first_kept(alloc, names, key, value)?;
-                Ok(())
+        let grown = match &mut self.kept {
+            Kept::Empty => Some(first_kept(alloc, names, key, value)?),
+            Kept::Few(named) => set_few(alloc, names, named, key, value)?,
+            Kept::Indices(indices) => set_indices(alloc, names, indices, key, value)?,
+            Kept::Both(indices, named) => set_both(alloc, names, indices, named, key, value)?,
+            Kept::Many(many) => {
+                many.set(alloc, key, value)?;
+                None
             }
-            Kept::Few(few) => match set_few(alloc, names, few, key, value)? {
-                Some(many) => {
-                    self.kept = Kept::Many(many);
-                    Ok(())
-                }
-                None => Ok(()),
-            },
-            Kept::Indices(few) => match set_indices(alloc, few, key, value)? {
-                Some(many) => {
-                    self.kept = Kept::Many(many);
-                    Ok(())
-                }
-                None => Ok(()),
-            },
-            Kept::Many(many) => many.set(alloc, key, value),
+        };
+        if let Some(kept) = grown {
+            self.kept = kept;
         }
+        Ok(())
     }
 
     /// The values, in the order of the keys.
@@ -122,6 +121,7 @@ impl Properties {
             Kept::Empty => Ok(List::new(alloc)),
             Kept::Few(few) => few.values(alloc),
             Kept::Indices(few) => few.values(alloc),
+            Kept::Both(indices, named) => joined(indices.values(alloc)?, named.values(alloc)?),
             Kept::Many(many) => many.values(alloc),
         }
     }
@@ -137,6 +137,7 @@ impl Properties {
             Kept::Empty => Ok(List::new(alloc)),
             Kept::Few(few) => few.keys(alloc),
             Kept::Indices(few) => few.keys(alloc),
+            Kept::Both(indices, named) => joined(indices.keys(alloc)?, named.keys(alloc)?),
             Kept::Many(many) => many.keys(alloc),
         }
     }
@@ -149,6 +150,7 @@ impl Properties {
             Kept::Empty => true,
             Kept::Few(few) => few.len() == 0,
             Kept::Indices(few) => few.len() == 0,
+            Kept::Both(indices, named) => indices.len() == 0 && named.len() == 0,
             Kept::Many(many) => many.is_empty(),
         }
     }
@@ -164,6 +166,7 @@ impl Properties {
             Kept::Empty => Ok(List::new(alloc)),
             Kept::Few(few) => few.first(alloc, n),
             Kept::Indices(few) => few.first(alloc, n),
+            Kept::Both(indices, named) => first_of_both(alloc, indices, named, n),
             Kept::Many(many) => many.first(alloc, n),
         }
     }
@@ -179,6 +182,7 @@ impl Properties {
             Kept::Empty => Ok(List::new(alloc)),
             Kept::Few(few) => few.entries(alloc),
             Kept::Indices(few) => few.entries(alloc),
+            Kept::Both(indices, named) => joined(indices.entries(alloc)?, named.entries(alloc)?),
             Kept::Many(many) => many.entries(alloc),
         }
     }
@@ -197,44 +201,104 @@ fn first_kept(alloc: Global, names: &mut Names, key: &[u16], value: Value) -> Re
     }
 }
 
-// Writes the value at a key, in place where the properties stay few. Where they don't, they are as
-// before, and it answers all of them, with this one.
+// Writes the value at a key, in place where that leaves the form. Where it doesn't, the properties are
+// as before, and it answers all of them, with this one.
 fn set_few(
     alloc: Global,
     names: &mut Names,
-    few: &mut FewProperties,
+    named: &mut FewProperties,
     key: &[u16],
     value: Value,
-) -> Result<Option<ManyProperties>, NoMemory>
-    ensures ok { IfOk result (λ many. unwrap_or many (only_named few.new) ≡ with_property (only_named few.old) key.now value) }
-    ensures err { OnErr result (few.new ≡ few.old) }
+) -> Result<Option<Kept>, NoMemory>
+    ensures ok { IfOk result (λ grown. option_map_or properties_kept grown (only_named named.new) ≡ with_property (only_named named.old) key.now value) }
+    ensures err { OnErr result (named.new ≡ named.old) }
 {
-    if index_of(key).is_none() && (few.len() < MAX_FEW || few.get(key).is_some()) {
-        few.set(alloc, names, key, value)?;
+    if let Some(index) = index_of(key) {
+        let indices = FewIndices::new(alloc, index, value)?;
+        return Ok(Some(Kept::Both(indices, named.copy(alloc)?)));
+    }
+    if named.has_room_for(key) {
+        named.set(alloc, names, key, value)?;
         return Ok(None);
     }
-    let mut many = ManyProperties::new(alloc, BTreeMap::new(alloc), few.table(alloc)?)?;
+    let mut many = ManyProperties::new(alloc, BTreeMap::new(alloc), named.table(alloc)?)?;
     many.set(alloc, key, value)?;
-    Ok(Some(many))
+    Ok(Some(Kept::Many(many)))
 }
 
 // The same of properties that are all at array indices.
 fn set_indices(
     alloc: Global,
-    few: &mut FewIndices,
+    names: &mut Names,
+    indices: &mut FewIndices,
     key: &[u16],
     value: Value,
-) -> Result<Option<ManyProperties>, NoMemory>
-    ensures ok { IfOk result (λ many. unwrap_or many (only_indices few.new) ≡ with_property (only_indices few.old) key.now value) }
-    ensures err { OnErr result (few.new ≡ few.old) }
+) -> Result<Option<Kept>, NoMemory>
+    ensures ok { IfOk result (λ grown. option_map_or properties_kept grown (only_indices indices.new) ≡ with_property (only_indices indices.old) key.now value) }
+    ensures err { OnErr result (indices.new ≡ indices.old) }
 {
-    if let Some(index) = index_of(key) {
-        if few.len() < MAX_FEW || few.get(index).is_some() {
-            few.set(index, value)?;
-            return Ok(None);
+    let Some(index) = index_of(key) else {
+        let named = FewProperties::new(alloc, names.share(alloc, key)?, value)?;
+        return Ok(Some(Kept::Both(indices.copy(alloc)?, named)));
+    };
+    if indices.has_room_for(index) {
+        indices.set(index, value)?;
+        return Ok(None);
+    }
+    let mut many = ManyProperties::new(alloc, indices.tree(alloc)?, UnitsMap::new(alloc))?;
+    many.set(alloc, key, value)?;
+    Ok(Some(Kept::Many(many)))
+}
+
+// The same of both.
+fn set_both(
+    alloc: Global,
+    names: &mut Names,
+    indices: &mut FewIndices,
+    named: &mut FewProperties,
+    key: &[u16],
+    value: Value,
+) -> Result<Option<Kept>, NoMemory>
+    ensures ok { IfOk result (λ grown. option_map_or properties_kept grown (record { indices = indices.new; named = named.new }) ≡ with_property (record { indices = indices.old; named = named.old }) key.now value) }
+    ensures err { OnErr result ((indices.new ≡ indices.old) × (named.new ≡ named.old)) }
+{
+    match index_of(key) {
+        Some(index) => {
+            if indices.has_room_for(index) {
+                indices.set(index, value)?;
+                return Ok(None);
+            }
+        }
+        None => {
+            if named.has_room_for(key) {
+                named.set(alloc, names, key, value)?;
+                return Ok(None);
+            }
         }
     }
-    let mut many = ManyProperties::new(alloc, few.tree(alloc)?, UnitsMap::new(alloc))?;
+    let mut many = ManyProperties::new(alloc, indices.tree(alloc)?, named.table(alloc)?)?;
     many.set(alloc, key, value)?;
-    Ok(Some(many))
+    Ok(Some(Kept::Many(many)))
+}
+
+fn first_of_both(
+    alloc: Global,
+    indices: &FewIndices,
+    named: &FewProperties,
+    n: usize,
+) -> Result<List<Property>, NoMemory>
+    ensures { IfOk result (λ first. first ≡ take n (entries_of (record { indices = indices.now; named = named.now }))) }
+{
+    let first = indices.first(alloc, n)?;
+    let rest = named.first(alloc, n - first.len())?;
+    joined(first, rest)
+}
+
+fn joined<T: Drop>(first: List<T>, rest: List<T>) -> Result<List<T>, NoMemory>
+    ensures { IfOk result (λ all. all ≡ first ++ rest) }
+{
+    let mut all = first.into_vec();
+    let mut rest = rest.into_vec();
+    all.append(&mut rest)?;
+    Ok(List::from_vec(all))
 }

@@ -134,23 +134,39 @@ fn properties_keep_their_places(rt: HostRuntime) -> Result<(), Fail> {
     Ok(())
 }
 
+// The properties at the array indices below n, written from the last to the first and each twice, and
+// one at the key `a` before or behind them.
+fn indexed(alloc: Global, n: u32, is_first: bool) -> Result<Properties, NoMemory> {
+    let mut names = Names::new(alloc);
+    let mut properties = Properties::new();
+    if is_first {
+        properties.set(alloc, &mut names, [97u16].as_slice(), Value::Undefined)?;
+    }
+    for index in (0..n).rev() {
+        let key = decimal_units(alloc, u64::from(index))?;
+        let value = Value::Int(i64::from(index));
+        properties.set(alloc, &mut names, key.as_slice(), Value::Null)?;
+        properties.set(alloc, &mut names, key.as_slice(), value)?;
+    }
+    properties.set(alloc, &mut names, [97u16].as_slice(), Value::Null)?;
+    Ok(properties)
+}
+
 #[test]
 fn array_indices_rise(rt: HostRuntime) -> Result<(), Fail> {
     let alloc = rt.alloc();
     for n in [1u32, 2, 16, 17, 40] {
-        let mut names = Names::new(alloc);
-        let mut properties = Properties::new();
-        for index in (0..n).rev() {
-            let key = decimal_units(alloc, u64::from(index))?;
-            let value = Value::Int(i64::from(index));
-            properties.set(alloc, &mut names, key.as_slice(), Value::Null)?;
-            properties.set(alloc, &mut names, key.as_slice(), value)?;
-        }
-        let entries = properties.entries(alloc)?;
-        assert_eq!(rt; entries.len(), n as usize);
-        for (index, entry) in (0..n).zip(entries.as_slice()) {
-            assert_eq!(rt; index_of(entry.key.as_slice()), Some(index));
-            assert!(rt; entry.value == Value::Int(i64::from(index)));
+        for is_first in [false, true] {
+            let properties = indexed(alloc, n, is_first)?;
+            let entries = properties.entries(alloc)?;
+            for (index, entry) in (0..n).zip(entries.as_slice()) {
+                assert_eq!(rt; index_of(entry.key.as_slice()), Some(index));
+                assert!(rt; entry.value == Value::Int(i64::from(index)));
+            }
+            assert_eq!(rt; entries.len(), n as usize + 1);
+            let last = &entries.as_slice()[n as usize];
+            assert!(rt; last.key.as_slice() == [97u16].as_slice());
+            assert!(rt; last.value == Value::Null);
         }
     }
     Ok(())
