@@ -1,4 +1,4 @@
-//! The properties of an object that has few of them, none of them an array index.
+//! The properties of an object at keys that are no array indices, where these are few.
 ghost use Rattle.std.specs.Prelude.{◌≡◌, [], ◌∷◌, ◌++◌, nat_eq, length, map, take, IfOk, OnOk, OnErr};
 ghost use Rattle.std.specs.Bool.{OnTrue, OnFalse};
 ghost use Rattle.std.specs.Cmp.Lexicographic.{pointwise};

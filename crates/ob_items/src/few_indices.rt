@@ -1,4 +1,4 @@
-//! The properties of an object that has few of them, all of them array indices.
+//! The properties of an object at array indices, where these are few.
 ghost use Rattle.std.specs.Prelude.{◌≡◌, [], ◌∷◌, ◌++◌, ◌≤◌, length, map, take, decimal, insert, IfOk, OnOk, OnErr};
 ghost use Rattle.std.specs.Ordering.{nat_cmp};
 ghost use Rattle.std.specs.Map.{lookup};

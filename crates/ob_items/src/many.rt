@@ -1,4 +1,4 @@
-//! The properties of an object that has many of them, or some at array indices and some that aren't.
+//! The properties of an object that has many of them.
 ghost use Rattle.std.specs.Prelude.{◌≡◌, ◌≤◌, ◌==◌, ◌++◌, IfOk, OnOk, OnErr, length, map, take, decimal};
 ghost use Rattle.ob_items.specs.Properties.{property, with_property, count, values_of, keys_of, entries_of, index_entry, named_entry};
 

@@ -19,7 +19,7 @@ pub struct Properties {
     kept: Kept,
 }
 
-// An object whose properties are few keeps them in one short list, and an empty one asks for no memory.
+// An object whose properties are few keeps them in short lists, and an empty one asks for no memory.
 const _: () = prove!(size_of::<Properties>() == 24);
 
 /// A property: its key and its value.
