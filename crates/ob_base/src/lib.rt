@@ -31,7 +31,7 @@ pub use limits::{
 };
 pub use list::List;
 pub use no_memory::NoMemory;
-pub use operators::{BinaryOp, CompareOp, UnaryOp};
+pub use operators::{AssignOp, BinaryOp, ChangeOp, CompareOp, LogicOp, UnaryOp, UpdateOp};
 pub use plain::{Plain, PlainProp};
 pub use prelude::PRELUDE_TEXTS;
 pub use report::{Event, LostKind, TickReport};

@@ -7,7 +7,7 @@ use Rattle.ob_base.specs.declared.reserved.ReservedWord.TheVariants as word
 use Rattle.ob_lex.specs.declared.token.Token.{Token}
 use Rattle.ob_lex.specs.declared.token.TokenKind.{TokenKind}
 use Rattle.ob_lex.specs.declared.token.TokenKind.TheVariants as kind
-use Rattle.ob_tree_types.specs.declared.operators.ChangeOp.{ChangeOp}
+use Rattle.ob_base.specs.declared.operators.ChangeOp.{ChangeOp}
 use Rattle.ob_tree_types.specs.declared.tree.Expr.{Expr}
 use Rattle.ob_tree_types.specs.declared.tree.Function.{Function}
 use Rattle.ob_tree_types.specs.declared.tree.Decl.{Decl}

@@ -1,8 +1,8 @@
 -- Which cells have early errors.
 use Rattle.std.proofs.Common.{◌≡◌, pos, true, false, [], ◌∷◌, Some, None, rules}
 use Rattle.std.specs.Prelude.{codes}
-use Rattle.ob_tree_types.specs.declared.operators.AssignOp.TheVariants as assign
-use Rattle.ob_tree_types.specs.declared.operators.UpdateOp.TheVariants as count
+use Rattle.ob_base.specs.declared.operators.AssignOp.TheVariants as assign
+use Rattle.ob_base.specs.declared.operators.UpdateOp.TheVariants as count
 use Rattle.ob_tree_types.specs.declared.tree.Expr.TheVariants as node
 use Rattle.ob_tree_types.specs.declared.tree.FnBody.TheVariants as body
 use Rattle.ob_tree_types.specs.declared.tree.DeclValue.TheVariants as value

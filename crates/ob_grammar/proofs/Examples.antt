@@ -15,10 +15,10 @@ use Rattle.ob_tree_types.specs.declared.tree.Stmt.TheVariants as stmt
 use Rattle.ob_tree_types.specs.declared.cell.CellTree.{CellTree}
 use Rattle.ob_tree_types.specs.declared.cell.CellTree.TheVariants as cell
 use Rattle.ob_base.specs.declared.operators.CompareOp.TheVariants as compare
-use Rattle.ob_tree_types.specs.declared.operators.LogicOp.TheVariants as logic
-use Rattle.ob_tree_types.specs.declared.operators.AssignOp.TheVariants as assign
-use Rattle.ob_tree_types.specs.declared.operators.UpdateOp.TheVariants as count
-use Rattle.ob_tree_types.specs.declared.operators.ChangeOp.TheVariants as change
+use Rattle.ob_base.specs.declared.operators.LogicOp.TheVariants as logic
+use Rattle.ob_base.specs.declared.operators.AssignOp.TheVariants as assign
+use Rattle.ob_base.specs.declared.operators.UpdateOp.TheVariants as count
+use Rattle.ob_base.specs.declared.operators.ChangeOp.TheVariants as change
 use Rattle.ob_tree_types.specs.declared.tree.PropNode.TheVariants as prop
 use Rattle.ob_tree_types.specs.declared.tree.DeclValue.TheVariants as value
 use Rattle.ob_tree_types.specs.declared.tree.ForHead.TheVariants as head

@@ -5,8 +5,8 @@ use Rattle.ob_lex.specs.declared.punctuator.Punctuator.TheVariants as mark
 use Rattle.ob_lex.specs.declared.token.Token.{Token}
 use Rattle.ob_lex.specs.declared.token.TokenKind.{TokenKind}
 use Rattle.ob_lex.specs.declared.token.TokenKind.TheVariants as kind
-use Rattle.ob_tree_types.specs.declared.operators.AssignOp.{AssignOp}
-use Rattle.ob_tree_types.specs.declared.operators.UpdateOp.{UpdateOp}
+use Rattle.ob_base.specs.declared.operators.AssignOp.{AssignOp}
+use Rattle.ob_base.specs.declared.operators.UpdateOp.{UpdateOp}
 use Rattle.ob_tree_types.specs.declared.tree.Expr.{Expr}
 use Rattle.ob_tree_types.specs.declared.tree.FnBody.{FnBody}
 use Rattle.ob_grammar.specs.Marks.{IsMark, SameLine, mark_rank, rank_by, rank, update_of, assign_of}

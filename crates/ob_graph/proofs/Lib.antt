@@ -1,3 +1,1 @@
-pub mod ValueLaws
-pub mod PathLaws
 pub mod SearchLaws

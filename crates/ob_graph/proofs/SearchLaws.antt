@@ -12,9 +12,14 @@ use Rattle.std.proofs.lemmas.Map.Keys.{IsDistinct-push, IsDistinct-IsPermutation
 use Rattle.std.proofs.lemmas.Map.Steps.{length-le_from_distinct_below}
 use Rattle.std.proofs.lemmas.Cmp.{nat_eq_equiv}
 use Rattle.ob_graph.specs.Paths.{is_in, inputs_of, Path, Reached}
-use Rattle.ob_graph.specs.Paths.Path.{one, more}
+use Rattle.ob_inputs.specs.Paths.Path.{one, more}
+use Rattle.ob_inputs.specs.Same.{IsTest}
 use Rattle.ob_graph.specs.Searches.{Marked, Clearing, met, met_all, Spread, IsGraph}
-use Rattle.ob_graph.proofs.PathLaws.{reached_on}
+use Rattle.ob_inputs.proofs.PathLaws as paths
+
+-- numbers are told apart
+numbers : IsTest nat_eq
+numbers = record { exact = λ a b e. eqb-true a b e; self = λ a. eq-eqb a a refl }
 
 met_keeps : (found : List ℕ) (u v : ℕ) → is_in v found ≡ true → is_in v (met found u) ≡ true
 met_keeps found u v h = elim (is_in u found) as (λ b. is_in v (if b then found else found ++ u ∷ []) ≡ true) [ true ↦ h | false ↦ list_any-append (λ y. v == y) found (u ∷ []) ∙ or_left _ _ h ]
@@ -83,7 +88,7 @@ goes_on ins starts found i s lt =
     record {
       place = omega arith;
       first = λ v h. keeps us found v (s.first v h);
-      sound = λ v h. ⊎_elim (λ a. s.sound v a) (λ b. reached_on ins starts (get_or found i 0) v (s.sound _ (at_place found i lt)) b) (only us found v h);
+      sound = λ v h. ⊎_elim (λ a. s.sound v a) (λ b. paths.reached_on nat_eq numbers ins starts (get_or found i 0) v (s.sound _ (at_place found i lt)) b) (only us found v h);
       closed = λ k h u m. ⊎_elim
           (λ a. let e = (front us found k (omega arith)).0 in keeps us found u (s.closed k a u (subst (λ x. is_in u (ins x) ≡ true) e m)))
           (λ b. let e : k ≡ i = omega arith in has us found u (subst (λ x. is_in u (ins x) ≡ true) (ap (λ z. get_or (met_all found us) z 0) e ∙ f.0) m))

@@ -1,4 +1,3 @@
 pub mod Paths
-pub mod Values
 pub mod Searches
 pub mod Lending

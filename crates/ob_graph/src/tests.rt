@@ -1,7 +1,4 @@
-use crate::{
-    Graph, MAX_NODES, induction_over_inputs, paths_are_found, reached_nodes_are_found,
-    values_are_their_equation, values_follow_inputs,
-};
+use crate::{Graph, MAX_NODES};
 use std::alloc::{AllocError, Global};
 use std::test::Fail;
 
@@ -94,13 +91,4 @@ fn a_chain_is_built_from_either_end(rt: HostRuntime) -> Result<(), Fail> {
     assert_eq!(rt; down.reach(&[7]).len(), 8);
     assert!(rt; !down.circular(100_000));
     Ok(())
-}
-
-#[test]
-fn laws_can_be_called(_rt: HostRuntime) {
-    paths_are_found();
-    reached_nodes_are_found();
-    values_follow_inputs::<u8>();
-    values_are_their_equation::<u8>();
-    induction_over_inputs();
 }

@@ -119,14 +119,14 @@ in_a_function ds bs v w n s d t u x y z deep l p q r o back e =
     back ∙ ap left (scoped_two ds bs v (inside (ds ++ bs) v) n d t u x y l p q r o refl) ∙ ap (λ f. left (ran (inside (ds ++ bs) v) f)) deep
     ∙ ran_function (inside (ds ++ bs) v) s ∙ ap (λ f. ran f s) (sym e)
 
--- a scope, and then another with the same binding
-pub scoped_twice : (b : Bound) (a c w : Walk) (n : ℕ) (s t u x y z o : Found)
-    → n ≡ length s.scope → t ≡ bound_to b s → u ≡ ran a t → x ≡ closed_to n u → y ≡ bound_to b x → z ≡ ran c y → o ≡ closed_to n z
-    → w ≡ after (inside (b ∷ []) a) (inside (b ∷ []) c) → o ≡ ran w s
-scoped_twice b a c w n s t u x y z o l p q r p' q' r' e =
+-- a scope of one binding, and then another
+pub scoped_twice : (b d : Bound) (a c w : Walk) (n : ℕ) (s t u x y z o : Found)
+    → n ≡ length s.scope → t ≡ bound_to b s → u ≡ ran a t → x ≡ closed_to n u → y ≡ bound_to d x → z ≡ ran c y → o ≡ closed_to n z
+    → w ≡ after (inside (b ∷ []) a) (inside (d ∷ []) c) → o ≡ ran w s
+scoped_twice b d a c w n s t u x y z o l p q r p' q' r' e =
     let first : x ≡ ran (inside (b ∷ []) a) s = scoped (b ∷ []) a (inside (b ∷ []) a) n s t u x l p q r refl in
     let l' : n ≡ length x.scope = l ∙ ap length (sym (ran_scope (inside (b ∷ []) a) s)) ∙ ap (λ f. length f.scope) (sym first) in
-    both (inside (b ∷ []) a) (inside (b ∷ []) c) w s x o first (scoped (b ∷ []) c (inside (b ∷ []) c) n x y z o l' p' q' r' refl) e
+    both (inside (b ∷ []) a) (inside (d ∷ []) c) w s x o first (scoped (d ∷ []) c (inside (d ∷ []) c) n x y z o l' p' q' r' refl) e
 
 -- ---- lists, from a place on
 

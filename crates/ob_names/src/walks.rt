@@ -324,7 +324,7 @@ fn walk_stmt<'a>(walker: &mut Walker<'a>, stmt: &'a Stmt) -> Result<(), NoMemory
         }
         Stmt::ForOf(constant, name, source, turn) => {
             let open = walker.open_count();
-            walker.bind(name, *constant)?;
+            walker.bind(name, false)?;
             walk_expr(walker, source)?;
             walker.close_to(open);
             walker.bind(name, *constant)?;

@@ -2,8 +2,8 @@
 use Rattle.std.proofs.Common.{◌≡◌, ℕ, ℤ, Bool, true, false, List, [], ◌++◌, map, Some, None, rules}
 use Rattle.ob_base.specs.declared.operators.CompareOp.{CompareOp}
 use Rattle.ob_base.specs.declared.operators.UnaryOp.{UnaryOp}
-use Rattle.ob_tree_types.specs.declared.operators.AssignOp.{AssignOp}
-use Rattle.ob_tree_types.specs.declared.operators.UpdateOp.{UpdateOp}
+use Rattle.ob_base.specs.declared.operators.AssignOp.{AssignOp}
+use Rattle.ob_base.specs.declared.operators.UpdateOp.{UpdateOp}
 use Rattle.ob_tree_types.specs.declared.tree.Expr.{Expr, the_lemmas}
 use Rattle.ob_tree_types.specs.declared.tree.Expr.TheVariants as node
 use Rattle.ob_tree_types.specs.declared.tree.FnBody.TheVariants as body

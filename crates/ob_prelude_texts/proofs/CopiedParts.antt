@@ -2,8 +2,8 @@
 -- In each of them `f` is the function that is called, `n` the count of elements, `i` the index and `r` the result.
 use Rattle.std.specs.Prelude.{ℕ, pos, false, List, [], ◌∷◌, codes, Some, None}
 use Rattle.ob_base.specs.declared.operators.CompareOp.TheVariants as compare
-use Rattle.ob_tree_types.specs.declared.operators.AssignOp.TheVariants as assign
-use Rattle.ob_tree_types.specs.declared.operators.UpdateOp.TheVariants as update
+use Rattle.ob_base.specs.declared.operators.AssignOp.TheVariants as assign
+use Rattle.ob_base.specs.declared.operators.UpdateOp.TheVariants as update
 use Rattle.ob_tree_types.specs.declared.tree.Expr.{Expr}
 use Rattle.ob_tree_types.specs.declared.tree.Expr.TheVariants as expr
 use Rattle.ob_tree_types.specs.declared.tree.Stmt.{Stmt}

@@ -7,8 +7,8 @@ use Rattle.ob_base.specs.declared.reserved.ReservedWord.TheVariants as word
 use Rattle.ob_lex.specs.declared.token.Token.{Token}
 use Rattle.ob_lex.specs.declared.token.TokenKind.{TokenKind}
 use Rattle.ob_lex.specs.declared.token.TokenKind.TheVariants as kind
-use Rattle.ob_tree_types.specs.declared.operators.AssignOp.TheVariants as assign
-use Rattle.ob_tree_types.specs.declared.operators.UpdateOp.TheVariants as update_op
+use Rattle.ob_base.specs.declared.operators.AssignOp.TheVariants as assign
+use Rattle.ob_base.specs.declared.operators.UpdateOp.TheVariants as update_op
 use Rattle.ob_tree_types.specs.declared.tree.Expr.{Expr}
 use Rattle.ob_tree_types.specs.declared.tree.Expr.TheVariants as node
 use Rattle.ob_tree_types.specs.declared.tree.FnBody.TheVariants as body

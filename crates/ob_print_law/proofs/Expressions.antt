@@ -9,10 +9,10 @@ use Rattle.ob_base.specs.declared.operators.UnaryOp.{UnaryOp}
 use Rattle.ob_base.specs.declared.operators.UnaryOp.TheVariants as unary
 use Rattle.ob_lex.specs.declared.token.Token.{Token}
 use Rattle.ob_lex.specs.declared.token.TokenKind.TheVariants as kind
-use Rattle.ob_tree_types.specs.declared.operators.LogicOp.{LogicOp}
-use Rattle.ob_tree_types.specs.declared.operators.LogicOp.TheVariants as logic
-use Rattle.ob_tree_types.specs.declared.operators.AssignOp.{AssignOp}
-use Rattle.ob_tree_types.specs.declared.operators.UpdateOp.{UpdateOp}
+use Rattle.ob_base.specs.declared.operators.LogicOp.{LogicOp}
+use Rattle.ob_base.specs.declared.operators.LogicOp.TheVariants as logic
+use Rattle.ob_base.specs.declared.operators.AssignOp.{AssignOp}
+use Rattle.ob_base.specs.declared.operators.UpdateOp.{UpdateOp}
 use Rattle.ob_tree_types.specs.declared.tree.Expr.{Expr}
 use Rattle.ob_tree_types.specs.declared.tree.Expr.TheVariants as node
 use Rattle.ob_tree.specs.Tokens.{Token as Printed, Word, Mark, Number, Quoted}

@@ -10,14 +10,14 @@ use Rattle.ob_base.specs.declared.operators.UnaryOp.TheVariants as unary
 use Rattle.ob_base.specs.declared.reserved.ReservedWord.{ReservedWord}
 use Rattle.ob_base.specs.Reserved.{reserved_word}
 use Rattle.ob_lex.specs.Words.{mark_spelling, marks_of}
-use Rattle.ob_tree_types.specs.declared.operators.LogicOp.{LogicOp}
-use Rattle.ob_tree_types.specs.declared.operators.LogicOp.TheVariants as logic
-use Rattle.ob_tree_types.specs.declared.operators.AssignOp.{AssignOp}
-use Rattle.ob_tree_types.specs.declared.operators.AssignOp.TheVariants as assign
-use Rattle.ob_tree_types.specs.declared.operators.UpdateOp.{UpdateOp}
-use Rattle.ob_tree_types.specs.declared.operators.UpdateOp.TheVariants as count
-use Rattle.ob_tree_types.specs.declared.operators.ChangeOp.{ChangeOp}
-use Rattle.ob_tree_types.specs.declared.operators.ChangeOp.TheVariants as change
+use Rattle.ob_base.specs.declared.operators.LogicOp.{LogicOp}
+use Rattle.ob_base.specs.declared.operators.LogicOp.TheVariants as logic
+use Rattle.ob_base.specs.declared.operators.AssignOp.{AssignOp}
+use Rattle.ob_base.specs.declared.operators.AssignOp.TheVariants as assign
+use Rattle.ob_base.specs.declared.operators.UpdateOp.{UpdateOp}
+use Rattle.ob_base.specs.declared.operators.UpdateOp.TheVariants as count
+use Rattle.ob_base.specs.declared.operators.ChangeOp.{ChangeOp}
+use Rattle.ob_base.specs.declared.operators.ChangeOp.TheVariants as change
 use Rattle.ob_tree.specs.Depth.{deepest}
 use Rattle.ob_tree.specs.Tokens.{Token as Printed, Word, Mark, Number, Quoted, key_token, is_ascii_name}
 use Rattle.ob_tree.specs.Print.{Tokens, binary_mark, compare_mark, logic_mark, assign_mark, update_mark, change_mark, unary_token, in_parentheses, in_brackets, in_braces, listed, joined}

@@ -4,9 +4,9 @@ use Rattle.std.specs.Prelude.{codes}
 use Rattle.ob_base.specs.declared.operators.BinaryOp.TheVariants.{Pow}
 use Rattle.ob_base.specs.declared.operators.BinaryOp.{BinaryOp}
 use Rattle.ob_base.specs.declared.operators.UnaryOp.{UnaryOp}
-use Rattle.ob_tree_types.specs.declared.operators.AssignOp.{AssignOp}
-use Rattle.ob_tree_types.specs.declared.operators.UpdateOp.{UpdateOp}
-use Rattle.ob_tree_types.specs.declared.operators.ChangeOp.{ChangeOp}
+use Rattle.ob_base.specs.declared.operators.AssignOp.{AssignOp}
+use Rattle.ob_base.specs.declared.operators.UpdateOp.{UpdateOp}
+use Rattle.ob_base.specs.declared.operators.ChangeOp.{ChangeOp}
 use Rattle.ob_lex.specs.declared.punctuator.Punctuator.{Punctuator}
 use Rattle.ob_lex.specs.declared.token.Token.{Token}
 use Rattle.ob_lex.specs.declared.token.TokenKind.{TokenKind}

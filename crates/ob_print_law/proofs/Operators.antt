@@ -8,13 +8,13 @@ use Rattle.ob_base.specs.declared.operators.UnaryOp.TheVariants as unary
 use Rattle.ob_lex.specs.declared.punctuator.Punctuator.TheVariants as mark
 use Rattle.ob_lex.specs.declared.token.TokenKind.TheVariants as kind
 use Rattle.ob_lex.specs.Words.{mark_spelling, marks_of}
-use Rattle.ob_tree_types.specs.declared.operators.LogicOp.TheVariants as logic
-use Rattle.ob_tree_types.specs.declared.operators.AssignOp.{AssignOp}
-use Rattle.ob_tree_types.specs.declared.operators.AssignOp.TheVariants as assign
-use Rattle.ob_tree_types.specs.declared.operators.UpdateOp.{UpdateOp}
-use Rattle.ob_tree_types.specs.declared.operators.UpdateOp.TheVariants as count
-use Rattle.ob_tree_types.specs.declared.operators.ChangeOp.{ChangeOp}
-use Rattle.ob_tree_types.specs.declared.operators.ChangeOp.TheVariants as change
+use Rattle.ob_base.specs.declared.operators.LogicOp.TheVariants as logic
+use Rattle.ob_base.specs.declared.operators.AssignOp.{AssignOp}
+use Rattle.ob_base.specs.declared.operators.AssignOp.TheVariants as assign
+use Rattle.ob_base.specs.declared.operators.UpdateOp.{UpdateOp}
+use Rattle.ob_base.specs.declared.operators.UpdateOp.TheVariants as count
+use Rattle.ob_base.specs.declared.operators.ChangeOp.{ChangeOp}
+use Rattle.ob_base.specs.declared.operators.ChangeOp.TheVariants as change
 use Rattle.ob_tree.specs.Tokens.{Mark}
 use Rattle.ob_tree.specs.Print.{assign_mark, update_mark, change_mark, unary_token}
 use Rattle.ob_grammar.specs.declared.form.Infix.{Infix}

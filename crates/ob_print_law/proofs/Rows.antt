@@ -4,10 +4,10 @@ use Rattle.std.specs.Prelude.{codes}
 use Rattle.ob_base.specs.declared.operators.BinaryOp.{BinaryOp}
 use Rattle.ob_base.specs.declared.operators.CompareOp.{CompareOp}
 use Rattle.ob_base.specs.declared.operators.UnaryOp.{UnaryOp}
-use Rattle.ob_tree_types.specs.declared.operators.AssignOp.{AssignOp}
-use Rattle.ob_tree_types.specs.declared.operators.ChangeOp.{ChangeOp}
-use Rattle.ob_tree_types.specs.declared.operators.LogicOp.{LogicOp}
-use Rattle.ob_tree_types.specs.declared.operators.UpdateOp.{UpdateOp}
+use Rattle.ob_base.specs.declared.operators.AssignOp.{AssignOp}
+use Rattle.ob_base.specs.declared.operators.ChangeOp.{ChangeOp}
+use Rattle.ob_base.specs.declared.operators.LogicOp.{LogicOp}
+use Rattle.ob_base.specs.declared.operators.UpdateOp.{UpdateOp}
 use Rattle.ob_tree_types.specs.declared.tree.Expr.{Expr, the_lemmas}
 use Rattle.ob_tree_types.specs.declared.tree.Expr.TheVariants as node
 use Rattle.ob_tree_types.specs.declared.tree.PropNode.{PropNode}

@@ -6,8 +6,8 @@ use Rattle.ob_lex.specs.Words.{mark_spelling, marks_of}
 use Rattle.ob_lex.specs.declared.punctuator.Punctuator.TheVariants as mark
 use Rattle.ob_lex.specs.declared.token.TokenKind.{TokenKind}
 use Rattle.ob_lex.specs.declared.token.TokenKind.TheVariants as kind
-use Rattle.ob_tree_types.specs.declared.operators.ChangeOp.{ChangeOp}
-use Rattle.ob_tree_types.specs.declared.operators.ChangeOp.TheVariants as change
+use Rattle.ob_base.specs.declared.operators.ChangeOp.{ChangeOp}
+use Rattle.ob_base.specs.declared.operators.ChangeOp.TheVariants as change
 use Rattle.ob_tree_types.specs.declared.tree.Expr.{Expr}
 use Rattle.ob_tree_types.specs.declared.tree.Function.{Function}
 use Rattle.ob_tree_types.specs.declared.tree.Decl.{Decl}

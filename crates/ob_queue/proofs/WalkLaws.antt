@@ -11,7 +11,7 @@ use Rattle.std.proofs.lemmas.Map.Keys.{IsDistinct-push, IsDistinct-IsPermutation
 use Rattle.std.proofs.lemmas.Map.Steps.{length-le_from_distinct_below}
 use Rattle.std.proofs.lemmas.Cmp.{nat_eq_equiv}
 use Rattle.ob_graph.specs.Paths.{is_in, Path}
-use Rattle.ob_graph.specs.Paths.Path.{one, more}
+use Rattle.ob_inputs.specs.Paths.Path.{one, more}
 use Rattle.ob_graph.specs.Searches.{Marked}
 use Rattle.ob_queue.specs.Plans.{is_marked, marked_inputs, HasNoCycle, InputsFirst, CyclesAside}
 use Rattle.ob_queue.specs.Walks.{Walked, Walking, taken}

@@ -14,7 +14,7 @@ use Rattle.ob_tree_types.specs.declared.tree.Function.{Function, roll-Function}
 use Rattle.ob_tree_types.specs.declared.tree.Stmt.{Stmt, the_lemmas}
 use Rattle.ob_tree_types.specs.declared.tree.Stmt.TheVariants as stmt
 use Rattle.ob_tree.specs.Scopes.{Mention, Meaning, Free, Local, Captured, nothing, named, outside, after, inside, in_function}
-use Rattle.ob_tree.specs.Walks.{function_walk}
+use Rattle.ob_tree.specs.Walks.{variable, constant, binding, function_walk}
 use Rattle.ob_tree.specs.Names.{Referred, mentions_of, free_names, local_names}
 
 abbrev giving : List (List ℕ) → Expr → Function
@@ -106,3 +106,8 @@ a_for_of = doing (stmt.ForOf true x (name x) (thrown x) ∷ thrown x ∷ [])
 a_for_of_means : mentions_of (function_walk a_for_of) ≡ means x (Local 0) ∷ means x (Local 1) ∷ means x Free ∷ []
 unfolding nothing named outside after inside in_function
 a_for_of_means = search (rules, the_lemmas)
+
+-- around `x` the name is no constant; in each turn it is one
+a_for_of_binds : (function_walk a_for_of).bound ≡ binding variable x ∷ binding constant x ∷ []
+unfolding nothing named outside after inside in_function
+a_for_of_binds = search (rules, the_lemmas)

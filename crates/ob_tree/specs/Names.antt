@@ -1,12 +1,11 @@
 -- The free, local and captured names of a cell or a function (this project).
-use Rattle.std.specs.Prelude.{ℕ, ◌+◌, ◌==◌, Bool, true, false, not, ◌&&◌, List, [], ◌∷◌, ◌++◌, length, map, fold, if◌then◌else◌, bytes_eq}
+use Rattle.std.specs.Prelude.{ℕ, ◌==◌, Bool, true, false, ◌&&◌, List, [], ◌∷◌, ◌++◌, map, fold, if◌then◌else◌, bytes_eq}
 use Rattle.std.specs.List.{list_any, filter, position_or_len}
 use Rattle.ob_tree_types.specs.declared.cell.CellTree.{CellTree}
 use Rattle.ob_tree_types.specs.declared.cell.SpecForm.{SpecForm}
 use Rattle.ob_tree_types.specs.declared.cell.SpecForm.TheVariants as forms
-use Rattle.ob_tree_types.specs.declared.tree.Function.{Function}
 use Rattle.ob_tree.specs.Scopes.{Bound, Place, Mention, Meaning, Free, Local, Captured, Walk}
-use Rattle.ob_tree.specs.Walks.{function_walk, cell_walk}
+use Rattle.ob_tree.specs.Walks.{cell_walk}
 
 -- the start of a text: no binding is numbered, no function stands around it, and nothing is in scope
 abbrev pub start : Place

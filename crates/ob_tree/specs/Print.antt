@@ -6,14 +6,14 @@ use Rattle.ob_base.specs.declared.operators.CompareOp.{CompareOp}
 use Rattle.ob_base.specs.declared.operators.CompareOp.TheVariants as compare
 use Rattle.ob_base.specs.declared.operators.UnaryOp.{UnaryOp}
 use Rattle.ob_base.specs.declared.operators.UnaryOp.TheVariants as unary
-use Rattle.ob_tree_types.specs.declared.operators.LogicOp.{LogicOp}
-use Rattle.ob_tree_types.specs.declared.operators.LogicOp.TheVariants as logic
-use Rattle.ob_tree_types.specs.declared.operators.AssignOp.{AssignOp}
-use Rattle.ob_tree_types.specs.declared.operators.AssignOp.TheVariants as assign
-use Rattle.ob_tree_types.specs.declared.operators.UpdateOp.{UpdateOp}
-use Rattle.ob_tree_types.specs.declared.operators.UpdateOp.TheVariants as update
-use Rattle.ob_tree_types.specs.declared.operators.ChangeOp.{ChangeOp}
-use Rattle.ob_tree_types.specs.declared.operators.ChangeOp.TheVariants as change
+use Rattle.ob_base.specs.declared.operators.LogicOp.{LogicOp}
+use Rattle.ob_base.specs.declared.operators.LogicOp.TheVariants as logic
+use Rattle.ob_base.specs.declared.operators.AssignOp.{AssignOp}
+use Rattle.ob_base.specs.declared.operators.AssignOp.TheVariants as assign
+use Rattle.ob_base.specs.declared.operators.UpdateOp.{UpdateOp}
+use Rattle.ob_base.specs.declared.operators.UpdateOp.TheVariants as update
+use Rattle.ob_base.specs.declared.operators.ChangeOp.{ChangeOp}
+use Rattle.ob_base.specs.declared.operators.ChangeOp.TheVariants as change
 use Rattle.ob_tree_types.specs.declared.cell.CellTree.{CellTree}
 use Rattle.ob_tree_types.specs.declared.cell.CellTree.TheVariants as cell
 use Rattle.ob_tree_types.specs.declared.cell.ImportTree.{ImportTree}

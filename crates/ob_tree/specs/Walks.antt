@@ -3,7 +3,7 @@
 --
 -- These have a scope: a function, for its parameters with the declarations of its block; a block, for its declarations; a `catch` part, for its
 -- name with the declarations of its block; a `for`, for the names of its head; a `for` over elements, one for what is gone through, in which the
--- name has no value yet, and one for each turn; and a function expression with a name, for that name around the function. A
+-- name never gets a value and is no constant (ECMA-262, "ForIn/OfHeadEvaluation"), and one for each turn; and a function expression with a name, for that name around the function. A
 -- declaration counts in its whole scope, before its place too.
 use Rattle.std.specs.Prelude.{ℕ, Bool, true, false, List, [], ◌∷◌, ◌++◌, map, Option, Some, None}
 use Rattle.ob_tree_types.specs.declared.cell.CellTree.{CellTree}
@@ -166,7 +166,7 @@ stmt_step (layer.While a turn) = only (after a turn.walk)
 stmt_step (layer.DoWhile turn a) = only (after turn.walk a)
 stmt_step (layer.For head test update turn) =
     only (inside head.declares (after head.walk (after (if_there test) (after (if_there update) turn.walk))))
-stmt_step (layer.ForOf k x a turn) = only (after (inside (binding k x ∷ []) a) (inside (binding k x ∷ []) turn.walk))
+stmt_step (layer.ForOf k x a turn) = only (after (inside (binding variable x ∷ []) a) (inside (binding k x ∷ []) turn.walk))
 stmt_step layer.Break = only nothing
 stmt_step layer.Continue = only nothing
 stmt_step (layer.Return a) = only (if_there a)

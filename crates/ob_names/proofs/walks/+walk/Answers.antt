@@ -137,7 +137,7 @@ walk_stmt-returns-in_ok-walk_stmt-in-For t c =
 
 pub walk_stmt-returns-in_ok-walk_stmt-in-ForOf : goal.walk_stmt-returns-in_ok-walk_stmt-in-ForOf
 walk_stmt-returns-in_ok-walk_stmt-in-ForOf t c =
-    scoped_twice _ _ _ _ _ _ _ _ _ _ _ _ c.open_count-open-in-ForOf.ensures c.in_ok-bind-in-ForOf.ensures c.in_ok-walk_expr-in-ForOf.ensures c.close_to-in-ForOf.ensures c.in_ok-bind-in-ForOf-2.ensures c.in_ok-walk_stmt-in-ForOf.ensures c.close_to-in-ForOf-2.ensures (search (rules, the_lemmas))
+    scoped_twice _ _ _ _ _ _ _ _ _ _ _ _ _ c.open_count-open-in-ForOf.ensures c.in_ok-bind-in-ForOf.ensures c.in_ok-walk_expr-in-ForOf.ensures c.close_to-in-ForOf.ensures c.in_ok-bind-in-ForOf-2.ensures c.in_ok-walk_stmt-in-ForOf.ensures c.close_to-in-ForOf-2.ensures (search (rules, the_lemmas))
 
 pub walk_stmt-returns-in_ok-walk_handler-in-Try-default-default-None : goal.walk_stmt-returns-in_ok-walk_handler-in-Try-default-default-None
 walk_stmt-returns-in_ok-walk_handler-in-Try-default-default-None t c =
