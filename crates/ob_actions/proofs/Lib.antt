@@ -1,0 +1,13 @@
+pub mod AnyGood
+pub mod Each
+pub mod ElementsRise
+pub mod FixedStay
+pub mod FromStore
+pub mod Holds
+pub mod Kept
+pub mod KeptCalls
+pub mod OwnRegion
+pub mod PropertyLemmas
+pub mod Regions
+pub mod StepsFall
+pub mod StoreLaw

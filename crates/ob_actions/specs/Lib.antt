@@ -1,0 +1,17 @@
+pub mod Act
+pub mod World
+pub mod Core
+pub mod Meters
+pub mod Operators
+pub mod Properties
+pub mod Places
+pub mod NewItems
+pub mod Hosts
+pub mod FunctionValues
+pub mod Output
+pub mod Generators
+pub mod Requests
+pub mod Calls
+pub mod Applied
+pub mod Freezing
+pub mod Within
