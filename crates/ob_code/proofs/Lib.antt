@@ -1,0 +1,9 @@
+mod Once
+mod Locals
+mod Tables
+mod Walks
+mod Lands
+mod Plain
+mod Controls
+mod Closing
+mod Sound

@@ -1,0 +1,17 @@
+pub mod Code
+pub mod Effects
+pub mod Sites
+pub mod There
+pub mod Shapes
+pub mod Ways
+pub mod Rules
+pub mod Refused
+pub mod Codes
+pub mod Configs
+pub mod Leaves
+pub mod Instructions
+pub mod Steps
+pub mod Runs
+pub mod Ends
+pub mod Fits
+pub mod Named
