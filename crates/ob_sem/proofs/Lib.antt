@@ -1,4 +1,6 @@
 pub mod AnyScope
+pub mod FreezingLaws
+pub mod FreezingMarks
 pub mod KeepsLaws
 pub mod Kept
 pub mod KeptCalled

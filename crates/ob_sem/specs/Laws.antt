@@ -6,7 +6,9 @@ use Rattle.ob_items.specs.declared.value.Value.{Value}
 use Rattle.ob_tree_types.specs.declared.tree.Function.{Function}
 use Rattle.ob_values.specs.Fixed.{is_fixed, KeepsFixed}
 use Rattle.ob_values.specs.Store.{Store, item_of, region_of, elements_in}
+use Rattle.ob_values.specs.Freeze.{Freezes}
 use Rattle.ob_actions.specs.Act.{Out, Go, Threw, Refused}
+use Rattle.ob_actions.specs.Freezing.{freeze}
 use Rattle.ob_actions.specs.Requests.{Request}
 use Rattle.ob_actions.specs.Within.{Each, IfThere, Good, GoodItems, GoodLocals, GoodRequest, Reachable, IsClosed}
 use Rattle.ob_sem.specs.Called.{call_to, call_body}
@@ -76,3 +78,9 @@ pub record RunKeepsFixed (set : Setting) : Type 0 where
 
 abbrev pub RunsKeepFixed : Type 0
 RunsKeepFixed = (set : Setting) → RunKeepsFixed set
+
+-- ---- freezing
+
+-- a store that has the mark at exactly what a value reaches is the one that freezing computes
+abbrev pub FreezingIsComputed : Type 0
+FreezingIsComputed = (old new : Store) (value : Value) → Freezes old new value → new ≡ freeze value old

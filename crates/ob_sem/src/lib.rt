@@ -1,7 +1,7 @@
 //! The meaning of evaluation: what the trees of cells give, by recursion over them, and its laws.
 #![tactic(auto)]
 
-ghost use Rattle.ob_sem.specs.Laws.{StepsFall, ElementsRise, FixedStays, OwnRegionAlone, RunsKeepFixed};
+ghost use Rattle.ob_sem.specs.Laws.{StepsFall, ElementsRise, FixedStays, OwnRegionAlone, FreezingIsComputed, RunsKeepFixed};
 
 /// However an evaluation ends, no more steps are left than before.
 pub fn steps_fall()
@@ -23,6 +23,12 @@ pub fn fixed_stays()
 /// region changes, however it ends.
 pub fn own_region_alone()
     ensures { OwnRegionAlone }
+{}
+
+/// A store that has the frozen mark at exactly what a value reaches, and else is the one before, is the
+/// store that freezing computes.
+pub fn freezing_is_computed()
+    ensures { FreezingIsComputed }
 {}
 
 /// At each segment of a run, the freezing of its outcome with it, an item of any region that is frozen,
